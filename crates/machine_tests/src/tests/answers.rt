@@ -1,78 +1,124 @@
 //! Requests and their answers, over completions, stops and failures.
 use crate::tests::driver::{COUNTER, KEY, NO_KEY};
-use crate::tests::rig::{Rig, check, fresh, fresh_image, plain};
-use machine::Machine;
+use crate::tests::rig::{Calls, Rig, fresh_image, plain, try_fresh};
 use std::test::Fail;
+
+/// A counter writes nothing; a key has four writes and four syncs.
+fn answers<M: Calls>(rig: &mut Rig<M>) -> bool {
+    rig.counts_anew(0, NO_KEY)
+        && rig.writes == 0
+        && rig.ask(0, 1, KEY, 0) == Some(4)
+        && rig.writes == 4
+        && rig.ask(0, 2, COUNTER, 0).is_some()
+}
 
 #[test]
 fn requests_get_their_answers(rt: HostRuntime) -> Result<(), Fail> {
-    let mut rig = fresh(rt.alloc(), &[plain()])?;
-    rig.set_up(0, 0, 15);
-    rig.ask(0, 0, COUNTER, NO_KEY)?;
-    check(rig.writes == 0, "a counter that writes")?;
-    let syncs = rig.ask(0, 1, KEY, 0)?;
-    check(rig.writes == 4 && syncs == 4, "other writes or syncs")?;
-    rig.ask(0, 2, COUNTER, 0)?;
-    Ok(())
+    try_fresh(rt.alloc(), &[plain()], answers)
 }
 
-/// A key's first write is taken, and no sync is told.
-fn stop_within_a_key(rig: &mut Rig) -> Result<(), Fail> {
-    rig.set_up(0, 0, 15);
-    rig.offer(0, 0, KEY)?;
-    let served = rig.serve(0)?;
-    check(served.sync && rig.writes == 1, "no sync of one write")?;
-    check(served.waiting && rig.machine.is_waiting(0), "nobody waits")?;
-    check(rig.ends(0, 0, 0, 0), "a reply before its sync")
+/// A serve rests, a sync is awaited, and the guest waits.
+fn rests_before_a_sync<M: Calls>(rig: &mut Rig<M>) -> bool {
+    match rig.serve(0) {
+        Some(served) => served.sync && served.waiting && rig.machine.waits(0),
+        None => false,
+    }
 }
 
-/// The write before a stop is lost, as a system may lose it; a key that was answered stands.
+/// A key's first write is taken, and no sync is told: there is no reply.
+fn stops_within_a_key<M: Calls>(rig: &mut Rig<M>) -> bool {
+    rig.set_up(0, 0, 15);
+    rig.offer(0, 0, KEY) && rests_before_a_sync(rig) && rig.writes == 1 && rig.ends(0, 0, 0, 0)
+}
+
+/// The sync is told, and those behind it: the key's reply is there.
+fn goes_on_to_a_key<M: Calls>(rig: &mut Rig<M>) -> bool {
+    rig.machine.tell(true) && rig.settle(0).is_some() && rig.ends(0, 0, 0, KEY)
+}
+
+/// Opens the image anew, and asks for the counter.
+fn counts_after_an_opening<M: Calls>(rig: &mut Rig<M>, code: u8) -> bool {
+    rig.machine.open_anew(rig.alloc, &[plain()], &rig.image) && rig.counts_anew(0, code)
+}
+
+/// The write is lost, as a system may lose it.
+fn loses_its_write<M: Calls>(rig: &mut Rig<M>) -> bool {
+    match fresh_image(rig.alloc, &[plain()]) {
+        Some(image) => {
+            rig.image = image;
+            true
+        }
+        None => false,
+    }
+}
+
+fn is_lost<M: Calls>(rig: &mut Rig<M>) -> bool {
+    stops_within_a_key(rig) && loses_its_write(rig) && counts_after_an_opening(rig, NO_KEY)
+}
+
+fn stands<M: Calls>(rig: &mut Rig<M>) -> bool {
+    stops_within_a_key(rig) && goes_on_to_a_key(rig) && counts_after_an_opening(rig, 0)
+}
+
+/// The write before a stop is lost; a key that was answered stands.
 #[test]
 fn what_was_answered_stands_after_an_opening(rt: HostRuntime) -> Result<(), Fail> {
-    let setups = [plain()];
-    for (is_answered, result) in [(false, NO_KEY), (true, 0)] {
-        let mut rig = fresh(rt.alloc(), &setups)?;
-        stop_within_a_key(&mut rig)?;
-        if is_answered {
-            rig.machine.completed(true)?;
-            rig.settle(0)?;
-            check(rig.ends(0, 0, 0, KEY), "no key")?;
-        } else {
-            rig.image = fresh_image(rt.alloc(), &setups)?;
-        }
-        rig.machine = Machine::open(rt.alloc(), &setups, &rig.image)?;
-        rig.set_up(0, 0, 15);
-        rig.ask(0, 0, COUNTER, result)?;
-    }
-    Ok(())
+    try_fresh(rt.alloc(), &[plain()], is_lost)?;
+    try_fresh(rt.alloc(), &[plain()], stands)
 }
 
-/// The reply that waits becomes a failure, and nothing more is accepted.
+fn fails_with_its_disk<M: Calls>(rig: &mut Rig<M>) -> bool {
+    let is_refused = !rig.machine.tell(true);
+    is_refused
+        && stops_within_a_key(rig)
+        && rig.machine.tell(false)
+        && rig.settle(0) == Some(0)
+        && rig.ends(0, 0, 5, KEY)
+        && rig.ask(0, 1, KEY, 1).is_some()
+        && rig.machine.broke()
+}
+
+/// A sync of nothing is refused. The reply that waits becomes a failure, and nothing more is
+/// accepted.
 #[test]
 fn a_failed_disk_makes_failures(rt: HostRuntime) -> Result<(), Fail> {
-    let mut rig = fresh(rt.alloc(), &[plain()])?;
-    check(rig.machine.completed(true).is_err(), "a sync of nothing")?;
-    stop_within_a_key(&mut rig)?;
-    rig.machine.completed(false)?;
-    check(rig.settle(0)? == 0, "a sync after a failure")?;
-    check(rig.ends(0, 0, 5, KEY), "a success after a failure")?;
-    rig.ask(0, 1, KEY, 1)?;
-    check(rig.machine.is_broken(), "a board that goes on")
+    try_fresh(rt.alloc(), &[plain()], fails_with_its_disk)
+}
+
+fn has_nothing<M: Calls>(rig: &mut Rig<M>, guest: u16) -> bool {
+    rig.ends(guest, 0, 0, 0) && rig.counts_anew(guest, NO_KEY)
+}
+
+fn has_a_key_alone<M: Calls>(rig: &mut Rig<M>) -> bool {
+    rig.set_up(2, 0, 15);
+    rig.ask(2, 0, KEY, 0).is_some()
+        && has_nothing(rig, 0)
+        && has_nothing(rig, 1)
+        && rig.ask(2, 1, COUNTER, 0).is_some()
 }
 
 /// The third of three guests is served, and it alone has a key.
 #[test]
 fn guests_have_keys_of_their_own(rt: HostRuntime) -> Result<(), Fail> {
-    let mut rig = fresh(rt.alloc(), &[plain(), plain(), plain()])?;
-    rig.set_up(2, 0, 15);
-    rig.ask(2, 0, KEY, 0)?;
-    for guest in 0..2 {
-        check(rig.ends(guest, 0, 0, 0), "another guest's reply")?;
-        rig.set_up(guest, 0, 15);
-        rig.ask(guest, 0, COUNTER, NO_KEY)?;
+    let setups = [plain(), plain(), plain()];
+    try_fresh(rt.alloc(), &setups, has_a_key_alone)
+}
+
+/// A serve looks for no chain, and the guest goes on waiting.
+fn looks_for_none<M: Calls>(rig: &mut Rig<M>) -> bool {
+    rig.needs.clear();
+    match rig.serve(0) {
+        Some(served) => served.waiting && rig.needs.len() == 1,
+        None => false,
     }
-    rig.ask(2, 1, COUNTER, 0)?;
-    Ok(())
+}
+
+fn waits_for_one<M: Calls>(rig: &mut Rig<M>) -> bool {
+    stops_within_a_key(rig)
+        && rig.offer(0, 1, COUNTER)
+        && looks_for_none(rig)
+        && goes_on_to_a_key(rig)
+        && rig.ends(0, 1, 0, COUNTER)
 }
 
 /// While one chain waits, no second is looked for.
@@ -80,14 +126,5 @@ fn guests_have_keys_of_their_own(rt: HostRuntime) -> Result<(), Fail> {
 fn no_more_chains_wait_than_may(rt: HostRuntime) -> Result<(), Fail> {
     let mut setup = plain();
     setup.most = 1;
-    let mut rig = fresh(rt.alloc(), &[setup])?;
-    stop_within_a_key(&mut rig)?;
-    rig.offer(0, 1, COUNTER)?;
-    rig.needs.clear();
-    check(rig.serve(0)?.waiting, "nobody waits")?;
-    check(rig.needs.len() == 1, "a second chain is looked for")?;
-    rig.machine.completed(true)?;
-    rig.settle(0)?;
-    let answered = rig.ends(0, 0, 0, KEY) && rig.ends(0, 1, 0, COUNTER);
-    check(answered, "other answers")
+    try_fresh(rt.alloc(), &[setup], waits_for_one)
 }

@@ -1,6 +1,6 @@
 //! Just what a serve needs.
 use crate::tests::driver::{COUNTER, NO_KEY, REPLY, REQUEST, descriptor};
-use crate::tests::rig::{Rig, check, fresh, plain};
+use crate::tests::rig::{Calls, Rig, plain, try_fresh};
 use machine::What;
 use mmio_transport::register as reg;
 use std::test::Fail;
@@ -41,82 +41,119 @@ static OVER_PACKED: [(What, u64, u64); 11] = [
     (What::Rest, 0, 0),
 ];
 
-/// A counter through a table at 0x5000, with INDIRECT_DESC and EVENT_IDX, 28 and 29. The words are
-/// of what refers to it, of the request and of the reply. A packed ring's driver's area wants to
-/// be told of place 0 of the first wrap (2.8.10).
-fn count(rig: &mut Rig, is_packed: bool, words: [[u16; 2]; 3]) -> Result<(), Fail> {
-    let ring = if is_packed { 1 << 34 } else { 0 };
-    rig.set_up(0, ring | 1 << 28 | 1 << 29, 15);
-    rig.offer(0, 0, COUNTER)?;
+/// Puts a counter through a table at 0x5000. The words are of what refers to it, of the request and
+/// of the reply.
+fn put_table<M: Calls>(rig: &mut Rig<M>, words: [[u16; 2]; 3]) {
     rig.put(0, 0x1000, &descriptor(0x5000, 32, words[0]));
     rig.put(0, 0x5000, &descriptor(REQUEST, 512, words[1]));
     rig.put(0, 0x5010, &descriptor(REPLY, 512, words[2]));
-    if is_packed {
-        rig.put(0, 0x1010, &[0; 16]);
-        rig.put(0, 0x2000, &[0, 0x80, 2, 0]);
-    }
+}
+
+/// Just this is needed until the counter is answered, and the guest is interrupted.
+fn needs<M: Calls>(rig: &mut Rig<M>, needed: &[(What, u64, u64)]) -> bool {
     rig.needs.clear();
-    rig.settle(0)?;
-    check(rig.machine.interrupt(0) == 1, "no interrupt")?;
-    check(rig.ends(0, 0, NO_KEY, COUNTER), "another answer")
+    rig.settle(0).is_some()
+        && rig.machine.line(0) == 1
+        && rig.ends(0, 0, NO_KEY, COUNTER)
+        && rig.needs.as_slice() == needed
+}
+
+/// With INDIRECT_DESC and EVENT_IDX, 28 and 29. The used index is then 1, its element chain 0 with
+/// 512 bytes; avail_event is 1.
+fn needs_over_split<M: Calls>(rig: &mut Rig<M>) -> bool {
+    rig.set_up(0, 1 << 28 | 1 << 29, 15);
+    let is_offered = rig.offer(0, 0, COUNTER);
+    put_table(rig, [[4, 0], [1, 1], [2, 0]]);
+    is_offered
+        && needs(rig, &OVER_SPLIT)
+        && rig.holds(0, 0x3000, &[0, 0, 1, 0, 0, 0, 0, 0, 0, 2, 0, 0])
+        && rig.holds(0, 0x3084, &[1, 0])
+}
+
+/// The id is 7, AVAIL is set; then USED too, and the device wrote (2.8.4). The driver's area wants
+/// to be told of place 0 of the first wrap (2.8.10).
+fn needs_over_packed<M: Calls>(rig: &mut Rig<M>) -> bool {
+    rig.set_up(0, 1 << 34 | 1 << 28 | 1 << 29, 15);
+    let is_offered = rig.offer(0, 0, COUNTER);
+    put_table(rig, [[7, 0x84], [0, 0], [0, 2]]);
+    rig.put(0, 0x1010, &[0; 16]);
+    rig.put(0, 0x2000, &[0, 0x80, 2, 0]);
+    is_offered && needs(rig, &OVER_PACKED) && rig.holds(0, 0x1008, &[0, 2, 0, 0, 7, 0, 0x82, 0x80])
+}
+
+fn needs_just_these<M: Calls>(rig: &mut Rig<M>) -> bool {
+    needs_over_split(rig) && needs_over_packed(rig)
 }
 
 #[test]
 fn a_counter_needs_just_these_bytes(rt: HostRuntime) -> Result<(), Fail> {
-    let mut rig = fresh(rt.alloc(), &[plain()])?;
-    count(&mut rig, false, [[4, 0], [1, 1], [2, 0]])?;
-    check(rig.needs.as_slice() == OVER_SPLIT.as_slice(), "other needs")?;
-    // the used index is 1, its element chain 0 with 512 bytes; avail_event is 1
-    let used = rig.holds(0, 0x3000, &[0, 0, 1, 0, 0, 0, 0, 0, 0, 2, 0, 0]);
-    check(used && rig.holds(0, 0x3084, &[1, 0]), "not used")?;
-    // the id is 7, AVAIL is set; then USED too, and the device wrote (2.8.4)
-    count(&mut rig, true, [[7, 0x84], [0, 0], [0, 2]])?;
-    check(
-        rig.needs.as_slice() == OVER_PACKED.as_slice(),
-        "other needs",
-    )?;
-    let used = rig.holds(0, 0x1008, &[0, 2, 0, 0, 7, 0, 0x82, 0x80]);
-    check(used, "not used")
+    try_fresh(rt.alloc(), &[plain()], needs_just_these)
+}
+
+fn steps<M: Calls>(rig: &mut Rig<M>, calls: u32) -> bool {
+    for _ in 0..calls {
+        if rig.step(0).is_none() {
+            return false;
+        }
+    }
+    true
+}
+
+/// A serve needs nothing but the index, twice at most, and there is no reply.
+fn needs_no_chain<M: Calls>(rig: &mut Rig<M>) -> bool {
+    rig.needs.clear();
+    match rig.serve(0) {
+        Some(served) => served.fault.is_none() && rig.needs.len() <= 3 && rig.ends(0, 0, 0, 0),
+        None => false,
+    }
 }
 
 /// A reset after so many calls of a serve: what it was asked for counts for nothing, whether it is
-/// told to be there or not. Nothing is asked for but the index, twice at most.
-fn reset_after(rig: &mut Rig, calls: u32, is_there: bool) -> Result<(), Fail> {
+/// told to be there or not.
+fn is_void_after<M: Calls>(rig: &mut Rig<M>, calls: u32, is_there: bool) -> bool {
     rig.set_up(0, 0, 15);
-    rig.offer(0, 0, COUNTER)?;
-    for _ in 0..calls {
-        rig.step(0)?;
+    if !rig.offer(0, 0, COUNTER) || !steps(rig, calls) {
+        return false;
     }
     rig.set_up(0, 0, 15);
     rig.buffer.fill(0xff);
     rig.is_there = is_there;
-    rig.needs.clear();
-    check(rig.serve(0)?.fault.is_none(), "a fault")?;
-    check(rig.needs.len() <= 3, "other needs")?;
-    check(rig.ends(0, 0, 0, 0), "a reply")?;
-    rig.ask(0, 0, COUNTER, NO_KEY)?;
-    Ok(())
+    needs_no_chain(rig) && rig.ask(0, 0, COUNTER, NO_KEY).is_some()
+}
+
+fn is_always_void<M: Calls>(rig: &mut Rig<M>) -> bool {
+    for calls in 0..16 {
+        if !is_void_after(rig, calls, true) || !is_void_after(rig, calls, false) {
+            return false;
+        }
+    }
+    true
 }
 
 #[test]
 fn a_reset_voids_what_was_asked(rt: HostRuntime) -> Result<(), Fail> {
-    let mut rig = fresh(rt.alloc(), &[plain()])?;
-    for calls in 0..16 {
-        reset_after(&mut rig, calls, true)?;
-        reset_after(&mut rig, calls, false)?;
+    try_fresh(rt.alloc(), &[plain()], is_always_void)
+}
+
+/// Just one call of a serve, with no fault.
+fn rests_at_once<M: Calls>(rig: &mut Rig<M>) -> bool {
+    match rig.serve(0) {
+        Some(served) => served.fault.is_none() && rig.needs.len() == 1,
+        None => false,
     }
-    Ok(())
+}
+
+fn waits_for_driver_ok<M: Calls>(rig: &mut Rig<M>) -> bool {
+    rig.set_up(0, 0, 11);
+    if !rig.offer(0, 0, COUNTER) || !rests_at_once(rig) {
+        return false;
+    }
+    rig.machine.set(0, reg::STATUS, 15);
+    rig.settle(0).is_some() && rig.ends(0, 0, NO_KEY, COUNTER)
 }
 
 /// Before DRIVER_OK; what was offered is served behind it.
 #[test]
 fn nothing_is_looked_at_before_driver_ok(rt: HostRuntime) -> Result<(), Fail> {
-    let mut rig = fresh(rt.alloc(), &[plain()])?;
-    rig.set_up(0, 0, 11);
-    rig.offer(0, 0, COUNTER)?;
-    check(rig.serve(0)?.fault.is_none(), "a fault")?;
-    check(rig.needs.len() == 1, "a look before DRIVER_OK")?;
-    rig.set(0, reg::STATUS, 15);
-    rig.settle(0)?;
-    check(rig.ends(0, 0, NO_KEY, COUNTER), "no reply")
+    try_fresh(rt.alloc(), &[plain()], waits_for_driver_ok)
 }
