@@ -4,7 +4,7 @@ use super::descriptors::{
     Descriptor, INDIRECT, NEXT, WRITE, describe, holds, memory_of, put, set_word,
 };
 use super::devices::check;
-use super::queues::{Answer, BAD_RANGE, ORDER, Queue, Step, TOO_LONG, take, with_ring};
+use super::queues::{Answer, BAD_RANGE, Bench, ORDER, Queue, Step, TOO_LONG, with_ring};
 use super::split_rings::pop_one;
 use super::walks::{chain_of, scatters};
 use chains::{Chain, Places};
@@ -41,6 +41,11 @@ fn put_table(memory: &mut Memory, write: u16) -> bool {
 
 fn put_longest(memory: &mut Memory, write: u16) -> bool {
     put_ring(memory) && put_table(memory, write)
+}
+
+// It is available too.
+fn offers_longest(memory: &mut Memory, write: u16) -> bool {
+    put_longest(memory, write) && set_word(memory, 20482, 1)
 }
 
 // Whether what is kept of the chain takes the longest reply, which ends where the chain does.
@@ -107,14 +112,9 @@ fn lengths_popped(alloc: Global, memory: &mut Memory, ring: &mut Ring) -> Option
 type Lengths = (u16, (usize, u64));
 
 // A ring pops the longest chain first, of these lengths.
-fn pops_the_longest(
-    alloc: Global,
-    memory: &mut Memory,
-    ring: &mut Ring,
-    lengths: &Lengths,
-) -> Result<(), Fail> {
-    let offered = put_longest(memory, lengths.0) && set_word(memory, 20482, 1);
-    let popped = lengths_popped(alloc, memory, ring);
+fn pops_the_longest(bench: &mut Bench<Ring>, lengths: &Lengths) -> Result<(), Fail> {
+    let offered = offers_longest(&mut bench.memory, lengths.0);
+    let popped = lengths_popped(bench.alloc, &mut bench.memory, &mut bench.ring);
     check(offered && popped == Some(lengths.1), "other lengths")
 }
 
@@ -169,84 +169,45 @@ struct LongTable {
     of_packed: Answer,
 }
 
+#[rattlefmt::skip]
 static ALL_READ: [LongTable; 5] = [
     // To be written, which is more than any reply has; and to be read, which is more than any
     // request has.
-    LongTable {
-        flags: WRITE,
-        split: (59207, 9, WRITE, 0),
-        packed: (59207, 9, 0, WRITE),
-        of_split: Answer::Chain(0, 1, 255, 9216),
-        of_packed: Answer::Chain(9, 256, 255, 9216),
-    },
-    LongTable {
-        flags: 0,
-        split: (59207, 9, 0, 0),
-        packed: (59207, 9, 0, 0),
-        of_split: Answer::Chain(0, 1, 8705, 0),
-        of_packed: Answer::Chain(9, 256, 8705, 0),
-    },
+    LongTable { flags: WRITE, split: (59207, 9, WRITE, 0), packed: (59207, 9, 0, WRITE),
+        of_split: Answer::Chain(0, 1, 255, 9216), of_packed: Answer::Chain(9, 256, 255, 9216) },
+    LongTable { flags: 0, split: (59207, 9, 0, 0), packed: (59207, 9, 0, 0),
+        of_split: Answer::Chain(0, 1, 8705, 0), of_packed: Answer::Chain(9, 256, 8705, 0) },
     // Refused at the last entry alone.
-    LongTable {
-        flags: WRITE,
-        split: (65536, 1, WRITE, 0),
-        packed: (65536, 1, 0, WRITE),
-        of_split: BAD_RANGE,
-        of_packed: BAD_RANGE,
-    },
-    LongTable {
-        flags: WRITE,
-        split: (59207, 9, 0, 0),
-        packed: (59207, 9, 0, 0),
-        of_split: ORDER,
-        of_packed: ORDER,
-    },
+    LongTable { flags: WRITE, split: (65536, 1, WRITE, 0), packed: (65536, 1, 0, WRITE),
+        of_split: BAD_RANGE, of_packed: BAD_RANGE },
+    LongTable { flags: WRITE, split: (59207, 9, 0, 0), packed: (59207, 9, 0, 0),
+        of_split: ORDER, of_packed: ORDER },
     // The last entry goes on at the first one; in a packed table NEXT doesn't count.
-    LongTable {
-        flags: WRITE,
-        split: (59207, 9, WRITE + NEXT, 0),
-        packed: (59207, 9, 0, WRITE + NEXT),
-        of_split: TOO_LONG,
-        of_packed: Answer::Chain(9, 256, 255, 9216),
-    },
+    LongTable { flags: WRITE, split: (59207, 9, WRITE + NEXT, 0),
+        packed: (59207, 9, 0, WRITE + NEXT), of_split: TOO_LONG,
+        of_packed: Answer::Chain(9, 256, 255, 9216) },
 ];
 
 // The first pop gives this, and reads all descriptors: as many as the queue has places, and 1,024.
-fn reads_all<R: Queue>(
-    alloc: Global,
-    memory: &mut Memory,
-    ring: &mut R,
-    last: Descriptor,
-    answer: Answer,
-) -> Result<(), Fail> {
-    check(describe(memory, 20464, last), "the last entry")?;
-    take(
-        alloc,
-        memory,
-        ring,
-        &[Step::Pops(1, answer), Step::Reads(1280)],
-    )
+fn reads_all<R: Queue>(bench: &mut Bench<R>, last: Descriptor, answer: Answer) -> Result<(), Fail> {
+    check(describe(&mut bench.memory, 20464, last), "the last entry")?;
+    bench.take(&[Step::Pops(1, answer), Step::Reads(1280)])
 }
 
-fn reads_all_of_split(
-    alloc: Global,
-    memory: &mut Memory,
-    ring: &mut Ring,
-    row: &LongTable,
-) -> Result<(), Fail> {
-    let offered = put_longest(memory, row.flags) && set_word(memory, 20482, 1);
-    check(offered, "the longest chain")?;
-    reads_all(alloc, memory, ring, row.split, row.of_split)
+fn reads_all_of_split(bench: &mut Bench<Ring>, row: &LongTable) -> Result<(), Fail> {
+    check(
+        offers_longest(&mut bench.memory, row.flags),
+        "the longest chain",
+    )?;
+    reads_all(bench, row.split, row.of_split)
 }
 
-fn reads_all_of_packed(
-    alloc: Global,
-    memory: &mut Memory,
-    ring: &mut packed_ring::Ring,
-    row: &LongTable,
-) -> Result<(), Fail> {
-    check(put_packed(memory, row.flags), "the longest chain")?;
-    reads_all(alloc, memory, ring, row.packed, row.of_packed)
+fn reads_all_of_packed(bench: &mut Bench<packed_ring::Ring>, row: &LongTable) -> Result<(), Fail> {
+    check(
+        put_packed(&mut bench.memory, row.flags),
+        "the longest chain",
+    )?;
+    reads_all(bench, row.packed, row.of_packed)
 }
 
 #[test]

@@ -32,39 +32,16 @@ pub fn uses(pair: &mut Pair, id: u32, len: u32) -> bool {
 
 // While a chain with room for 2 bytes is in flight under the id 0, the device's first element has
 // an id and a length. Where no chain has them a reap is refused, and once more.
+#[rattlefmt::skip]
 static ELEMENTS: [(Form, &[Turn]); 8] = [
-    (
-        (RingKind::Split, false),
-        &[OFFERED, Turn::Uses(0, 2), REAPED],
-    ),
-    (
-        (RingKind::Split, true),
-        &[OFFERED, Turn::Uses(0, 3), BAD, BAD],
-    ),
-    (
-        (RingKind::Split, true),
-        &[OFFERED, Turn::Uses(1, 0), BAD, BAD],
-    ),
-    (
-        (RingKind::Split, false),
-        &[OFFERED, Turn::Uses(65536, 0), BAD, BAD],
-    ),
-    (
-        (RingKind::Packed, false),
-        &[OFFERED, Turn::Uses(0, 2), REAPED],
-    ),
-    (
-        (RingKind::Packed, true),
-        &[OFFERED, Turn::Uses(0, 3), BAD, BAD],
-    ),
-    (
-        (RingKind::Packed, false),
-        &[OFFERED, Turn::Uses(1, 0), BAD, BAD],
-    ),
-    (
-        (RingKind::Packed, true),
-        &[OFFERED, Turn::Uses(65535, 0), BAD, BAD],
-    ),
+    ((RingKind::Split, false), &[OFFERED, Turn::Uses(0, 2), REAPED]),
+    ((RingKind::Split, true), &[OFFERED, Turn::Uses(0, 3), BAD, BAD]),
+    ((RingKind::Split, true), &[OFFERED, Turn::Uses(1, 0), BAD, BAD]),
+    ((RingKind::Split, false), &[OFFERED, Turn::Uses(65536, 0), BAD, BAD]),
+    ((RingKind::Packed, false), &[OFFERED, Turn::Uses(0, 2), REAPED]),
+    ((RingKind::Packed, true), &[OFFERED, Turn::Uses(0, 3), BAD, BAD]),
+    ((RingKind::Packed, false), &[OFFERED, Turn::Uses(1, 0), BAD, BAD]),
+    ((RingKind::Packed, true), &[OFFERED, Turn::Uses(65535, 0), BAD, BAD]),
 ];
 
 const OFFERED: Turn = Turn::Offers(&[5, 6, 7], 2, Ok(0));
