@@ -136,19 +136,10 @@ fn fill(alloc: Global, byte: u8) -> Option<Filler> {
 
 /// What each of them leaves, with the first write in slot A and the second in slot B, and with the
 /// second one in slot B and a third one in slot A.
+#[rattlefmt::skip]
 static GATES: [[Found; 4]; 2] = [
-    [
-        (1, [1, 0, 0]),
-        (2, [1, 2, 0]),
-        (1, [1, 0, 0]),
-        (2, [1, 2, 0]),
-    ],
-    [
-        (2, [1, 2, 0]),
-        (3, [1, 2, 3]),
-        (2, [1, 2, 0]),
-        (3, [1, 2, 3]),
-    ],
+    [(1, [1, 0, 0]), (2, [1, 2, 0]), (1, [1, 0, 0]), (2, [1, 2, 0])],
+    [(2, [1, 2, 0]), (3, [1, 2, 3]), (2, [1, 2, 0]), (3, [1, 2, 3])],
 ];
 
 /// How many calls come before the sync of both gates: ten, or, from the third write on, the
