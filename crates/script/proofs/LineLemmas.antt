@@ -8,6 +8,9 @@ use Rattle.script.specs.Script.{first_none}
 use Rattle.script.specs.declared.fault.LineError.{LineError}
 use Rattle.script.specs.declared.fault.LineError.TheVariants as refusal
 use Rattle.script.specs.declared.line.Line.{Line}
+use Rattle.script.specs.Refusal.{IfBadLine}
+use Rattle.script.specs.declared.fault.ScriptError.{ScriptError}
+use Rattle.script.specs.declared.fault.ScriptError.TheVariants as script
 
 -- a line that says something has two words or four
 pub line_of_words-none : (g : ℕ) (words : List (Bor (List ℕ))) → length words ≢ 2 → length words ≢ 4
@@ -66,3 +69,9 @@ all_read reads (l ∷ ls) (x ∷ xs) done =
 pub if_bad : (holds : Type 0) (why : LineError) → holds → IfBad holds why
 if_bad holds (refusal.BadScript flaw) is = is
 if_bad holds refusal.NoMemory is = tt
+
+-- what follows of a number follows of that of a refused line
+pub if_bad_line : {P Q : ℕ → Type 0} → ((n : ℕ) → P n → Q n) → (refused : ScriptError)
+    → IfBadLine P refused → IfBadLine Q refused
+if_bad_line follows (script.BadScript number flaw) holds = follows number holds
+if_bad_line follows script.NoMemory holds = holds

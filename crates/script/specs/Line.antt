@@ -1,5 +1,5 @@
 -- What a script's line says.
-use Rattle.std.specs.Prelude.{ℕ, ◌+◌, ◌<◌, ◌≤◌, ◌^◌, ◌==◌, ◌||◌, nat_lt, nat_le, ⊤, Bool}
+use Rattle.std.specs.Prelude.{ℕ, min, ◌+◌, ◌<◌, ◌≤◌, ◌^◌, ◌==◌, ◌||◌, nat_lt, nat_le, ⊤, Bool}
 use Rattle.std.specs.Prelude.{if◌then◌else◌, List, [], ◌∷◌, length, slice_index, codes, Option}
 use Rattle.std.specs.Prelude.{Some, None, option_and_then, option_map}
 use Rattle.std.specs.Str.{bytes_eq}
@@ -86,6 +86,13 @@ IsWithin guests (chain g bytes w) =
     (g < guests) × (length bytes ≤ 8704) × (w ≤ 8192) × (0 < length bytes + w)
 IsWithin guests (store g address bytes) = (g < guests) × (address < 2 ^ 64) × (0 < length bytes)
 IsWithin guests (reset g) = g < guests
+
+-- the guest that a line stores for, and the address behind its last byte, at most 2^64 - 1
+abbrev pub stored_up_to : Said → Option (ℕ × ℕ)
+stored_up_to nothing = None
+stored_up_to (chain g bytes w) = None
+stored_up_to (store g address bytes) = Some (g, min (address + length bytes) 18446744073709551615)
+stored_up_to (reset g) = None
 
 -- what a script may say whose guests are served at once: all but a store, since a guest's memory is
 -- its driver's then

@@ -1,6 +1,9 @@
 //! Why a line isn't read, in words. No contract speaks of them: whether a line is read, `line` says.
 
-use crate::fault::LineError;
+ghost use Rattle.std.specs.Prelude.{◌≡◌};
+ghost use Rattle.script.specs.Refusal.{IfBadLine};
+
+use crate::fault::{LineError, ScriptError};
 use hex::FromHexError;
 use std::alloc::{AllocError, Global};
 
@@ -38,8 +41,17 @@ pub(crate) fn no_guest(alloc: Global, word: &str, guests: u16) -> LineError {
     ))
 }
 
+fn is_decimal(word: &str) -> bool {
+    !word.is_empty() && word.as_bytes().iter().all(|byte| byte.is_ascii_digit())
+}
+
 /// The word at a place, counted from 1, is no number up to this one.
 pub(crate) fn no_number(alloc: Global, place: usize, word: &str, most: u64) -> LineError {
+    if is_decimal(word) {
+        return LineError::of(format!(in alloc;
+            "word {place}: expected a number from 0 to {most}, got a larger one"
+        ));
+    }
     let Ok(word) = shown(alloc, word) else {
         return LineError::NoMemory;
     };
@@ -104,6 +116,7 @@ fn hint_of(command: &str) -> &'static str {
         "image" => "; it looks like a board file, which comes first",
         "used" => "; it looks like an answer: the lines that rpmb prints are wanted here",
         "rpmb" => "; what rpmb prints is wanted here: rpmb .. > SCRIPT",
+        "rpmb:" | "rpmbd:" => "; it looks like a refusal: > takes standard output alone",
         _ if command.starts_with('[') => "; it looks like a board file, which comes first",
         _ if command.starts_with("VRPMBIMG") => "; it looks like an image",
         _ if command.len() == 64 && is_hex(command) => "; it looks like a key",
@@ -146,6 +159,35 @@ pub(crate) fn other_count(alloc: Global, words: &[&str]) -> LineError {
     }
 }
 
+/// What is said of a dash that is none of ASCII.
+const OTHER_DASH: &str = "it has a dash that an editor made of -; write - itself";
+
+/// Letters that no line has that is read, and what is said of each.
+static OTHER_LETTERS: [(char, &str); 6] = [
+    ('\t', "it has a tab, expected one space between words"),
+    (
+        '\u{a0}',
+        "it has a no-break space, expected a plain one between words",
+    ),
+    (
+        '\0',
+        "it has a byte of zero (NUL), as no text has; make the script again",
+    ),
+    ('\u{2013}', OTHER_DASH),
+    ('\u{2014}', OTHER_DASH),
+    ('\u{2212}', OTHER_DASH),
+];
+
+/// What is said of the first of those letters that a line has.
+fn flaw_of_letters(line: &str) -> Option<&'static str> {
+    for (letter, flaw) in OTHER_LETTERS.iter() {
+        if line.contains(*letter) {
+            return Some(*flaw);
+        }
+    }
+    None
+}
+
 /// What is wrong with the bytes of a line, whatever its words are.
 fn flaw_of_bytes(line: &str) -> Option<&'static str> {
     if line.starts_with('\u{feff}') {
@@ -157,8 +199,8 @@ fn flaw_of_bytes(line: &str) -> Option<&'static str> {
              away",
         );
     }
-    if line.contains('\t') {
-        return Some("it has a tab, expected one space between words");
+    if let Some(flaw) = flaw_of_letters(line) {
+        return Some(flaw);
     }
     if line.starts_with(' ') {
         return Some("it begins with a space, expected the line's first word");
@@ -177,5 +219,27 @@ pub(crate) fn told(alloc: Global, line: &str, flaw: String) -> LineError {
     match flaw_of_bytes(line) {
         Some(first) => LineError::of(String::from_str(alloc, first)),
         None => LineError::BadScript(flaw),
+    }
+}
+
+/// Whether a line of a script that is refused, counted from 1, may have been cut: it is the last one,
+/// without a line feed, and has fewer words than its command wants.
+fn may_be_cut(script: &str, line: usize) -> bool {
+    let last = script.split('\n').last().unwrap_or("");
+    let mut words = last.split(' ');
+    let command = words.next().unwrap_or("");
+    script.split('\n').count() == line && form_of(command).is_some() && words.count() < 3
+}
+
+/// The refusal of a script for a line, counted from 1, and that it may have been cut where it may.
+pub(crate) fn bad_line(alloc: Global, script: &str, line: usize, flaw: String) -> ScriptError
+    ensures { IfBadLine (λ n. n ≡ line) result }
+{
+    if !may_be_cut(script, line) {
+        return ScriptError::BadScript { line, flaw };
+    }
+    match format!(in alloc; "{flaw}; it has no line feed: was the file cut?") {
+        Ok(flaw) => ScriptError::BadScript { line, flaw },
+        Err(_) => ScriptError::NoMemory,
     }
 }

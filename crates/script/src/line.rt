@@ -2,7 +2,7 @@
 ghost use Rattle.std.specs.Prelude.{◌≡◌, ◌∷◌, [], IfErr, IfOk, None, Ok, Some, map, true};
 ghost use Rattle.script.specs.Line.{IsWithin, chain_line, guest_of, is_skipped, line_of};
 ghost use Rattle.script.specs.Line.{line_of_words};
-ghost use Rattle.script.specs.Line.{readable_of, said, store_line, stored_of};
+ghost use Rattle.script.specs.Line.{readable_of, said, store_line, stored_of, stored_up_to};
 ghost use Rattle.script.specs.Line.{writable_of};
 ghost use Rattle.script.specs.Refusal.{IfBad};
 ghost use Rattle.script.specs.Words.{bytes_of, number_of};
@@ -41,6 +41,21 @@ pub enum Line {
         /// The number of the guest.
         guest: u16,
     },
+}
+
+impl Line {
+    /// The guest into whose memory the line stores, and the address behind the last byte that it
+    /// stores, at most 2^64 - 1; None of a line that stores nothing.
+    pub fn stored_up_to(&self) -> Option<(u16, u64)>
+        ensures { result ≡ stored_up_to (said self.now) }
+    {
+        match self {
+            Line::Store { guest, at, bytes } => {
+                Some((*guest, at.saturating_add(bytes.len() as u64)))
+            }
+            _ => None,
+        }
+    }
 }
 
 /// The longest readable part of a chain, in bytes: 17 frames of 512.

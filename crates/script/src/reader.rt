@@ -47,10 +47,7 @@ fn read_lines(
                 }
             }
             Err(LineError::BadScript(flaw)) => {
-                return Err(ScriptError::BadScript {
-                    line: lines.len() + 1,
-                    flaw,
-                });
+                return Err(flaw::bad_line(alloc, script, lines.len() + 1, flaw));
             }
             Err(LineError::NoMemory) => return Err(ScriptError::NoMemory),
         }

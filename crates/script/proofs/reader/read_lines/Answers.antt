@@ -1,10 +1,10 @@
-use Rattle.std.proofs.Common.{◌≡◌, ◌∙◌, ◌+◌, ap, rules, length, lit<, map, None, Some}
+use Rattle.std.proofs.Common.{◌≡◌, ◌∙◌, ◌+◌, ap, rules, length, lit<, map, sym, None, Some}
 use Rattle.std.proofs.lemmas.Iterator.Consumers.{YieldsList-at, YieldsList-end, YieldsList-so_far}
 use Rattle.std.proofs.lemmas.Iterator.Consumers.{YieldsList-turn}
 use Rattle.std.proofs.lemmas.Iterator.Splits.{YieldsList-from_str_split}
 use Rattle.script.specs.Line.{line_when}
 use Rattle.script.specs.Script.{lines_of}
-use Rattle.script.proofs.LineLemmas.{first_none_next}
+use Rattle.script.proofs.LineLemmas.{first_none_next, if_bad_line}
 use Rattle.script.proofs.reader.read_lines.Goals as goal
 
 pub returns-in-Err-BadScript-clause-bad : goal.returns-in-Err-BadScript-clause-bad
@@ -19,9 +19,10 @@ returns-in-Err-BadScript-clause-bad c =
     let before = YieldsList-so_far road c.loop-text.yielded _ c.loop-text.yielded_by in
     let turn = YieldsList-turn road c.loop-text.yielded _ c.loop-text.yielded_by _ _ c.in-Some.text
     c.in-Some.is c.next.ensures.steps in
-    first_none_next (line_when c.args.served c.args.guests) _ _ c.in-Some.text.now
+    let first = first_none_next (line_when c.args.served c.args.guests) _ _ c.in-Some.text.now
     c.loop-text.lines.items c.loop-text.invariant.read before turn.0 turn.1 bad
-    ∙ ap (λ n. Some (n + 1)) number
+    ∙ ap (λ n. Some (n + 1)) number in
+    if_bad_line (λ n is. first ∙ ap (λ m. Some m) (sym is)) c.bad_line.result c.bad_line.ensures
 
 pub returns-clause-ok : goal.returns-clause-ok
 unfolding lines_of
