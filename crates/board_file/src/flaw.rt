@@ -132,7 +132,7 @@ pub(crate) fn no_room(alloc: Global, guest: &GuestConfig, least: u64) -> BoardEr
 
 /// An entry of the array of guests is no table.
 pub(crate) fn no_table(alloc: Global) -> BoardError {
-    BoardError::of(String::from_str(alloc, "expected a table"))
+    BoardError::of(String::from_str(alloc, "expected a table [[guest]]"))
 }
 
 /// The document has no array of guests.
@@ -177,9 +177,7 @@ fn cause_of(message: &str) -> &str {
     match message {
         "duplicate key" => "expected each key once",
         "invalid string" => "expected a text between two quotes \", both in this line",
-        "invalid escape" | "missing escaped value" => {
-            "expected / between folders, and two backslashes for one"
-        }
+        "invalid escape sequence" => "expected two backslashes for one, or / between folders",
         "number out of range" => {
             "expected a number of a board: capacity 1 to 128, max_wr_cnt and max_rd_cnt 1 to 16, \
              memory 65536 to 67108864, queue 2 to 256"
@@ -199,6 +197,26 @@ fn front_of(word: &str) -> (&str, &'static str) {
     }
 }
 
+/// What a line looks like whose number or whose remark isn't written as TOML has them.
+fn hint_of_line(line: &str) -> &'static str {
+    let line = line.trim_start();
+    if !line.is_ascii() {
+        "; it has a letter that isn't ASCII, which may look like one that is"
+    } else if line.starts_with("//") || line.starts_with(';') {
+        "; a remark begins with #"
+    } else if line.contains("= 0") {
+        "; a number begins with no 0"
+    } else if line.starts_with('{') {
+        "; it looks like JSON, and TOML is wanted here"
+    } else if line.contains(';') {
+        "; no ; ends a line"
+    } else if line.contains(':') && !line.contains('=') {
+        "; write = for :"
+    } else {
+        ""
+    }
+}
+
 /// What a text looks like that is no TOML, or a line of it.
 fn hint_of(text: &str, line: &str) -> &'static str {
     let is_of_script = ["chain ", "store ", "reset "]
@@ -215,7 +233,7 @@ fn hint_of(text: &str, line: &str) -> &'static str {
     } else if text.starts_with("VRPMBIMG") {
         "; it looks like an image, and the board file is wanted here"
     } else {
-        ""
+        hint_of_line(line)
     }
 }
 
