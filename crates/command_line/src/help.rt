@@ -54,7 +54,8 @@ pub const RUN: &str =
 or '-' for none. Where the guest has spoiled its rings: 'needs-reset G', 'no-answer G',
 'bad-used G'. What a printed line tells is settled in the image. Each line goes out as it
 comes. Of a board without 'image' nothing is kept once the run has ended.
-Where it was stopped, by TERM or otherwise, or its last lines are missing, some requests
+Where it was stopped, by TERM, by a limit of a file's length (ulimit -f; then without a
+word) or otherwise, or its last lines are missing, some requests
 may be done whose lines aren't there. `rpmb read-counter` makes the request that tells a
 guest's counter: go on with the write that was made for it (--counter). All before that
 are done.

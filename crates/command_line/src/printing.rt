@@ -14,11 +14,44 @@ const WAY_BACK: &str = "\n  tip: a similar subcommand exists: 'upgrade'";
 /// What stands behind that advice.
 const USAGE: &str = "\n\nUsage: ";
 
+/// The commands of `rpmb`, as `clap` names one that `rpmbd` hasn't, and those of `rpmbd`.
+static OF_RPMB: [&str; 9] = [
+    "'program-key'",
+    "'read-counter'",
+    "'write'",
+    "'read'",
+    "'result'",
+    "'explain'",
+    "'read-data'",
+    "'check'",
+    "'do'",
+];
+
+static OF_RPMBD: [&str; 5] = ["'format'", "'show'", "'upgrade'", "'run'", "'serve'"];
+
+fn names_one_of(front: &str, names: &[&str]) -> bool {
+    names.iter().any(|name| front.ends_with(*name))
+}
+
+/// What is advised of a command that isn't known, where it is the other program's.
+fn tip_for_command(front: &str, usage: &str) -> &'static str {
+    if usage.starts_with("rpmbd <") && names_one_of(front, OF_RPMB.as_slice()) {
+        return "\n\n  tip: that is a command of rpmb";
+    }
+    if usage.starts_with("rpmb <") && names_one_of(front, OF_RPMBD.as_slice()) {
+        return "\n\n  tip: that is a command of rpmbd";
+    }
+    ""
+}
+
 /// What is advised in its place: of an option that isn't known, which was mistyped or is another
 /// command's, nothing; of a file for a command that reads standard input, how it is given.
 fn tip_for(front: &str, usage: &str) -> &'static str {
     if front.contains("'downgrade'") {
         return "\n\n  tip: there is no way back from an image of version 2";
+    }
+    if usage.starts_with("rpmbd upgrade ") && front.contains("argument '-") {
+        return "\n\n  tip: it takes a board alone, and there is no way back from version 2";
     }
     if usage.contains(" do <BOARD> <OPERATION>") {
         return "\n\n  tip: its operations are program-key, read-counter, write and read";
@@ -27,7 +60,7 @@ fn tip_for(front: &str, usage: &str) -> &'static str {
     if reads_lines && !front.contains("argument '-") {
         return "\n\n  tip: the lines come from standard input: < FILE";
     }
-    ""
+    tip_for_command(front, usage)
 }
 
 /// The text of an error with other advice. None where it has no such advice and needs none, and
