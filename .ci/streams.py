@@ -10,7 +10,6 @@ import threading
 
 from programs import (
     BOARD,
-    DISK_FAULT,
     FILE_FAULT,
     KEY,
     SECONDS,
@@ -169,15 +168,14 @@ def sweep_order(room, image):
 
 
 def sweep_limits(room, image):
-    """A file size limit: what was printed is held by the image."""
+    """A file size limit: an image beyond it is refused before it is opened; of others what was printed is held."""
     files, count = {"board.toml": BOARD, "script.txt": script(3), "board.img": image}, collections.Counter()
     for verb, blocks in itertools.product(("run", "serve"), (0, 1, 2, 8, 64, 200, 400, 1_000)):
         folder = room.folder(files)
         shell = f"ulimit -f {blocks}; exec rpmbd {verb} board.toml script.txt"
         status, printed, told = bare(room, folder, ["bash", "-c", shell])
-        # (a write past the limit ends the program by a signal, or fails)
-        faults = {-signal.SIGXFSZ: {""}, 1: {FILE_FAULT, DISK_FAULT}} if blocks * 1024 < len(image) else {}
-        if told not in {0: {""}, **faults}.get(status, ()):
+        expected = (1, FILE_FAULT) if blocks * 1024 < len(image) else (0, "")
+        if (status, told) != expected:
             raise Wrong(f"rpmbd {verb}, ulimit -f {blocks}: {status}, {told!r}")
         check_held(room, folder, printed)
         count[status] += 1

@@ -80,15 +80,9 @@ fn misread(alloc: Global, task: Task<'_>) -> Option<String> {
 
 /// How many bytes the memory has of a guest beyond whose memory a line stores.
 fn left_memory(board: &BoardConfig, line: &Line) -> Option<u64> {
-    match line {
-        Line::Store { guest, at, bytes } => match board.guests().get(usize::from(*guest)) {
-            Some(guest) if at.saturating_add(bytes.len() as u64) > guest.memory => {
-                Some(guest.memory)
-            }
-            _ => None,
-        },
-        _ => None,
-    }
+    let (guest, end) = line.stored_up_to()?;
+    let memory = board.guests().get(usize::from(guest))?.memory;
+    if end > memory { Some(memory) } else { None }
 }
 
 /// Which line of the script stores beyond its guest's memory: the first one that does ended the run.
@@ -146,7 +140,7 @@ fn done_unseen(task: Task<'_>) -> &'static str {
 fn unwritten<W: Write>(alloc: Global, task: Task<'_>, out: &mut W) -> Option<String> {
     let done = done_unseen(task);
     let why = match out.flush() {
-        Ok(()) => said(alloc, OUTPUT, "took no line more")?,
+        Ok(()) => said(alloc, OUTPUT, "took no line more: is it full, or closed?")?,
         Err(error) => said_by(alloc, OUTPUT, &error)?,
     };
     format!(in alloc; "{why}; {done}").ok()

@@ -2,6 +2,7 @@
 ghost use Rattle.std.specs.Prelude.{◌≡◌, IfOk};
 
 use crate::fault::Fault;
+use crate::file_limit::check_limit;
 use crate::reason::Refusal;
 use crate::shown_file::ShownFile;
 use disk::FileDisk;
@@ -32,8 +33,12 @@ const FOLDER_NOT_HERE: &str = "where you are: the path counts from there, not fr
 const DEAD_LINK: &str = "is a link to a file that isn't there; mend the link, or name the file \
     itself in the board file";
 
-/// And of one whose path begins as one that a shell expands.
-const NOT_EXPANDED: &str = "isn't there: no ~ is expanded in a board file; write the whole path";
+/// And of one whose path has what a shell expands.
+const NOT_EXPANDED: &str =
+    "isn't there: no ~ and no $ is expanded in a board file; write the whole path";
+
+/// What is said of a path that can't be a file's.
+const NO_NAME: &str = "ends with /, and so names no file; take that away in the board file's image";
 
 /// What is said of an image whose path leads to none of the files that have bytes to be kept.
 const NO_FILE: &str = "and no plain file, as an image is; name another in the board file's image";
@@ -44,6 +49,10 @@ const IS_THERE: &str = "is there, and --new makes none over it; name another in 
 /// What is said of one that can't be made.
 const NO_FOLDER: &str = "its folder, seen from the one that you are in, isn't there; make that, or \
     mend the path in the board file";
+
+/// And of one whose folder is there, and is no place for files that are made.
+const NO_FILES_THERE: &str = "no file can be made in its folder; name another folder in the board \
+    file";
 
 /// And of one whose folder takes no new file.
 const NO_NEW_FILE: &str = "isn't there, and its folder lets you make no file; the folder's owner \
@@ -56,6 +65,12 @@ const NO_WRITING: &str = "isn't there, and nothing can be written in its folder;
 /// What is said of a board file that names itself as its image.
 const IS_BOARD: &str = "is the board file itself, and stays as it is; name another file in its \
     image";
+
+/// What is said of an image that standard output writes into, and which has no byte.
+const IS_EMPTIED: &str = "standard output writes into it, and the shell's > has emptied it; send \
+    what is printed elsewhere, and if it was an image, put a copy there";
+
+const IS_OUTPUT: &str = "standard output writes into it; send what is printed elsewhere";
 
 /// Opens the file of an image. Where standard output or error is closed, its number goes to the
 /// next file that is opened, and what is printed would be written into that file. So the file is
@@ -82,6 +97,9 @@ fn name_of_kind(kind: FileType) -> &'static str {
 /// what nobody asked for. A folder is refused as it is opened, and what standard output writes into
 /// as that.
 fn check_kind(rt: &HostRuntime, path: &str) -> Result<(), Refusal> {
+    if path.ends_with('/') {
+        return Err(refused(rt, path, NO_NAME));
+    }
     match fs::metadata(rt, path) {
         Ok(found) if !(found.is_file() || found.is_dir() || leads_to(rt, OUTPUT, &found)) => {
             let kind = name_of_kind(found.file_type());
@@ -158,7 +176,9 @@ fn hold(
     match file.metadata() {
         Ok(metadata) => {
             if leads_to(rt, OUTPUT, &metadata) {
-                return Err(refused(rt, path, "standard output writes into it"));
+                let is_empty = metadata.is_file() && metadata.len() == 0;
+                let why = if is_empty { IS_EMPTIED } else { IS_OUTPUT };
+                return Err(refused(rt, path, why));
             }
             Ok((file, metadata))
         }
@@ -195,12 +215,18 @@ fn is_link(rt: &HostRuntime, path: &str) -> bool {
     }
 }
 
+/// Whether a path has what a shell expands, and no board file.
+fn has_shell_word(path: &str) -> bool {
+    path.starts_with('~') || path.contains('$')
+}
+
 /// Why the file of an image isn't made.
 fn not_made(rt: &HostRuntime, path: &str, error: &io::Error) -> Refusal {
     match error.kind() {
         io::ErrorKind::NotFound if is_link(rt, path) => refused(rt, path, DEAD_LINK),
-        io::ErrorKind::NotFound if path.starts_with('~') => refused(rt, path, NOT_EXPANDED),
-        io::ErrorKind::NotFound => refused(rt, path, NO_FOLDER),
+        io::ErrorKind::NotFound if has_shell_word(path) => refused(rt, path, NOT_EXPANDED),
+        io::ErrorKind::NotFound if is_absent(rt, folder_of(path)) => refused(rt, path, NO_FOLDER),
+        io::ErrorKind::NotFound => refused(rt, path, NO_FILES_THERE),
         io::ErrorKind::AlreadyExists => refused(rt, path, IS_THERE),
         io::ErrorKind::PermissionDenied if is_absent(rt, path) => refused(rt, path, NO_NEW_FILE),
         io::ErrorKind::ReadOnlyFilesystem if is_absent(rt, path) => refused(rt, path, NO_WRITING),
@@ -239,9 +265,30 @@ fn not_there(rt: &HostRuntime, path: &str) -> Refusal {
 fn not_opened(rt: &HostRuntime, path: &str, error: &io::Error) -> Refusal {
     match error.kind() {
         io::ErrorKind::NotFound if is_link(rt, path) => refused(rt, path, DEAD_LINK),
-        io::ErrorKind::NotFound if path.starts_with('~') => refused(rt, path, NOT_EXPANDED),
+        io::ErrorKind::NotFound if has_shell_word(path) => refused(rt, path, NOT_EXPANDED),
         io::ErrorKind::NotFound => not_there(rt, path),
         _ => Refusal::of_call(rt.alloc(), path, error),
+    }
+}
+
+/// Gives the file of an image its length. One that was made for that, and can't have it, is taken
+/// away again.
+fn set_length(
+    rt: &HostRuntime,
+    path: &str,
+    file: &File,
+    is_new: bool,
+    len: u64,
+) -> Result<(), Refusal> {
+    let Err(error) = file.set_len(len) else {
+        return Ok(());
+    };
+    if is_new {
+        let _ = fs::remove_file(rt, path);
+    }
+    match error.kind() {
+        io::ErrorKind::InvalidInput => Err(refused(rt, path, "is no plain file")),
+        _ => Err(Refusal::of_call(rt.alloc(), path, &error)),
     }
 }
 
@@ -251,7 +298,7 @@ fn not_opened(rt: &HostRuntime, path: &str, error: &io::Error) -> Refusal {
 /// so, with `FileFault` as all that follows. It is refused where it can't be opened
 /// for reading and writing, where another program holds it, where it is the board file, whose path
 /// is `board`, or what standard output writes into: then its bytes stay; or where the folder can't
-/// be synced, or the length can't be set.
+/// be synced, or the length can't be set, or is beyond what this process may write.
 pub fn create_image(
     rt: &HostRuntime,
     path: &str,
@@ -262,6 +309,7 @@ pub fn create_image(
     ensures { IfOk result (λ disk. disk.len ≡ len) }
 {
     check_kind(rt, path)?;
+    check_limit(rt, path, len)?;
     let (file, is_new) = match open_or_make(rt, path, only_new) {
         Ok(opened) => opened,
         Err(error) => return Err(not_made(rt, path, &error)),
@@ -273,18 +321,13 @@ pub fn create_image(
     if is_new && sync_folder(rt, path).is_err() {
         return Err(refused(rt, path, "its folder can't be synced"));
     }
-    match file.set_len(len) {
-        Ok(()) => Ok(FileDisk::new(file, len)),
-        Err(error) => match error.kind() {
-            io::ErrorKind::InvalidInput => Err(refused(rt, path, "is no plain file")),
-            _ => Err(Refusal::of_call(rt.alloc(), path, &error)),
-        },
-    }
+    set_length(rt, path, &file, is_new, len)?;
+    Ok(FileDisk::new(file, len))
 }
 
 /// The file of an image that is there, and no other program's until it is closed. `FileFault` where
-/// it can't be opened for reading and writing, where another program holds it or looks at it, or
-/// where standard output writes into it.
+/// it can't be opened for reading and writing, where another program holds it or looks at it, where
+/// standard output writes into it, or where it is longer than this process may write.
 pub fn open_image(rt: &HostRuntime, path: &str) -> Result<FileDisk, Refusal> {
     check_kind(rt, path)?;
     let file = match open_there(rt, path, true) {
@@ -292,6 +335,7 @@ pub fn open_image(rt: &HostRuntime, path: &str) -> Result<FileDisk, Refusal> {
         Err(error) => return Err(not_opened(rt, path, &error)),
     };
     let (file, metadata) = hold(rt, path, file, true)?;
+    check_limit(rt, path, metadata.len())?;
     Ok(FileDisk::new(file, metadata.len()))
 }
 

@@ -8,6 +8,7 @@ mod command;
 mod end_reason;
 mod fault;
 mod fault_lines;
+mod file_limit;
 mod file_run;
 mod files;
 mod formatting;

@@ -8,14 +8,27 @@ use std::io;
 pub(crate) const OUTPUT: &str = "standard output";
 
 /// What is said of a file that is no text.
-pub(crate) const NO_TEXT: &str = "isn't text in UTF-8; save it as that";
+pub(crate) const NO_TEXT: &str =
+    "isn't text in UTF-8; save it as that, or unpack it where it is compressed";
 
 /// What is said of a file that isn't there.
 const NOT_THERE: &str =
     "isn't there; a path counts from the folder that you are in, unless it begins with /";
 
-/// The system's number of a stream that is closed, which has no kind of its own.
+/// What is said of a path that no file has.
+const NO_PATH: &str = "has a byte of zero (NUL), or another that no path has; mend the path";
+
+/// What is said where the system opens no file more.
+const NO_MORE_FILES: &str =
+    "can't be opened, as too many files are open; close some, or raise their number (ulimit -n)";
+
+/// The system's numbers of errors that have no kind of their own: a stream that is closed, and too
+/// many files that are open, in the system or in this process (EBADF, ENFILE and EMFILE of errno(3)).
 const CLOSED: i32 = 9;
+
+const SYSTEM_FILES: i32 = 23;
+
+const OWN_FILES: i32 = 24;
 
 /// What ended the program before its command began: the fault, and of which file it is and why.
 #[derive(Debug, Drop)]
@@ -43,9 +56,11 @@ fn words_of(kind: io::ErrorKind) -> Option<&'static str> {
         io::ErrorKind::FilesystemLoop => Some("leads round in links; name the file itself"),
         io::ErrorKind::InvalidFilename => Some("the path is too long; take a shorter one"),
         io::ErrorKind::InvalidData => Some(NO_TEXT),
-        io::ErrorKind::StorageFull => Some("no space left"),
+        io::ErrorKind::InvalidInput => Some(NO_PATH),
+        io::ErrorKind::StorageFull => Some("no space left; make room"),
         io::ErrorKind::FileTooLarge => Some(
-            "is longer than you may write a file (ulimit -f), or than its disk takes",
+            "is longer than you may write a file (ulimit -f), or than its disk takes; raise that, or \
+             name another",
         ),
         io::ErrorKind::BrokenPipe => Some("who read it is gone"),
         _ => None,
@@ -72,8 +87,10 @@ pub(crate) fn said(alloc: Global, what: &str, why: &str) -> Option<String> {
 
 /// What is wrong with a file or a stream by an error of a call.
 pub(crate) fn said_by(alloc: Global, what: &str, error: &io::Error) -> Option<String> {
-    if error.raw_os_error() == Some(CLOSED) {
-        return said(alloc, what, "is closed");
+    match error.raw_os_error() {
+        Some(CLOSED) => return said(alloc, what, "is closed"),
+        Some(SYSTEM_FILES | OWN_FILES) => return said(alloc, what, NO_MORE_FILES),
+        _ => {}
     }
     match words_of(error.kind()) {
         Some(why) => said(alloc, what, why),
