@@ -18,7 +18,7 @@ place_members guest place n =
 -- its type and result, by number and name
 unfoldable pub kind_members : ℕ → List ℕ → ℕ → List ℕ → List ℕ
 kind_members number kind code name =
-    codes ",\"request\":\"" ++ (kind ++ (codes "\",\"type\":" ++ (decimal number
+    codes ",\"kind\":\"" ++ (kind ++ (codes "\",\"type\":" ++ (decimal number
     ++ (codes ",\"result\":\"" ++ (name ++ (codes "\",\"code\":" ++ decimal code))))))
 
 abbrev pub kinds_of : List ℕ → List ℕ

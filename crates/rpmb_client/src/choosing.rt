@@ -1,8 +1,10 @@
 //! The answer to a request among the lines of a run, which may come one after another.
 ghost use Rattle.std.specs.Prelude.{◌≡◌, ◌++◌, ◌∷◌, ℕ, IfOk, List, None, OnOk, Option, Some, []};
 ghost use Rattle.std.specs.Prelude.{option_map};
-ghost use Rattle.rpmb_client.specs.Answer.{answer_in, answer_of, is_asked, reply_of};
-ghost use Rattle.rpmb_client.specs.Finding.{IsFinder, count_after, kept_after, kept_of, kept_seen};
+ghost use Rattle.script.specs.Script.{lines_of};
+ghost use Rattle.rpmb_client.specs.Answer.{answer_in, answer_of, is_asked, replies_of, reply_of};
+ghost use Rattle.rpmb_client.specs.Finding.{IsFinder, count_after, counted, kept_after, kept_of};
+ghost use Rattle.rpmb_client.specs.Finding.{kept_seen};
 ghost use Rattle.rpmb_client.specs.Finding.{only_kept, or_else};
 ghost use Rattle.rpmb_client.specs.Seen.{chosen, used_seen};
 
@@ -162,9 +164,14 @@ impl Finder {
     }
 }
 
-/// The answer among lines: their only reply, or else the only one with the nonce.
+/// The answer among lines: their only reply, or else the only one with the nonce; or how many
+/// replies they give.
 pub fn find_answer(alloc: Global, nonce: &[u8; 16], lines: &str) -> Result<Choice, AllocError>
-    ensures { IfOk result (λ choice. chosen choice ≡ answer_in nonce.now lines.now) }
+    ensures choice { IfOk result (λ choice. chosen choice ≡ answer_in nonce.now lines.now) }
+    ensures counts { IfOk result (λ choice. (count asked : ℕ)
+        → choice ≡ Choice.Replies count asked
+        → (count ≡ counted (replies_of None (lines_of lines.now)))
+        × (asked ≡ counted (replies_of (Some nonce.now) (lines_of lines.now)))) }
 {
     let mut finder = Finder::new(nonce);
     for line in lines.split('\n') {

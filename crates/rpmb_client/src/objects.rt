@@ -38,7 +38,7 @@ fn write_kind<W: Write>(
 {
     write!(
         out,
-        ",\"request\":\"{kind}\",\"type\":{number},\"result\":\"{name}\",\"code\":{code}"
+        ",\"kind\":\"{kind}\",\"type\":{number},\"result\":\"{name}\",\"code\":{code}"
     )?;
     Ok(())
 }

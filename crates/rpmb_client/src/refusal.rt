@@ -13,6 +13,7 @@ impl<'a> fmt::Display for Told<'a> {
             FromHexError::InvalidHexCharacter { c, index } if !c.is_ascii() => {
                 write!(f, "A letter that isn't ASCII at position {index}")
             }
+            FromHexError::OddLength => write!(f, "an odd number of letters"),
             why => write!(f, "{why}"),
         }
     }
