@@ -1,8 +1,9 @@
 -- The lines of a text, told one after another.
 use Rattle.std.proofs.Common.{◌≡◌, ◌≢◌, ◌∙◌, ℕ, Bool, true, false, List, [], ◌∷◌, ◌++◌, Option}
 use Rattle.std.proofs.Common.{Some, None, IfSome, nat_eq, nat_lt, refl, ap, sym, subst, true-eqb}
+use Rattle.std.proofs.Common.{Bor, map}
 use Rattle.std.proofs.KnownBytes.{Appends-nil, Appends-trans}
-use Rattle.std.proofs.lemmas.List.{append-nil}
+use Rattle.std.proofs.lemmas.List.{append-nil, map_push}
 use Rattle.std.proofs.lemmas.List.Concat.{flat_map-append}
 use Rattle.std.proofs.lemmas.List.Folds.{list_any-append}
 use Rattle.std.specs.Io.BufRead.{drop_through, take_through}
@@ -62,6 +63,16 @@ pub list_any-push : (p : List ℕ → Bool) (lines : List (List ℕ)) (line : Li
     → list_any p (lines ++ line ∷ []) ≡ (list_any p lines || p line)
 list_any-push p lines line = list_any-append p lines (line ∷ [])
     ∙ ap (λ b. list_any p lines || b) (or_false (p line))
+
+-- whether one of the texts that were given so far passes a test, with the next one
+pub any_so_far : (p : List ℕ → Bool) (given : List (Bor (List ℕ))) (next : Bor (List ℕ))
+    (before : Bool) → before ≡ list_any p (map (λ t. t.now) given)
+    → (now : Bool) → (before || p next.now) ≡ now
+    → now ≡ list_any p (map (λ t. t.now) (given ++ next ∷ []))
+any_so_far p given next before so_far now is =
+    sym is ∙ ap (λ b. b || p next.now) so_far
+    ∙ sym (list_any-push p (map (λ t. t.now) given) next.now)
+    ∙ sym (ap (list_any p) (map_push (λ t. t.now) given next))
 
 -- what was told of a text so far, of which this is left
 abbrev pub SoFar : Judging → (given left start now : Option (List ℕ)) → (wrong refused : ℕ) → Bool

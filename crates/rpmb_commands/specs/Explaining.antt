@@ -5,6 +5,8 @@ use Rattle.std.specs.Prelude.{IfSome, nat_lt, ◌==◌, ◌||◌}
 use Rattle.std.specs.Io.BufRead.{drop_through, take_through}
 use Rattle.std.specs.Io.KnownBytes.{Appends}
 use Rattle.std.specs.List.{ends_with, flat_map, list_any, starts_with}
+use Rattle.std.specs.Str.{bytes_eq}
+use Rattle.script.specs.Words.{words_of}
 use Rattle.rpmb_client.specs.Answer.{Used, used_of}
 use Rattle.rpmb_client.specs.Explained.{is_refused, is_wrong, reply_lines}
 use Rattle.rpmb_client.specs.Keys.{key_for}
@@ -34,9 +36,22 @@ judging_of judge =
 abbrev pub key_of : Judging → ℕ → Option (List ℕ)
 key_of by guest = key_for by.keys.own by.keys.others guest
 
--- a line that gives no reply was torn where it begins as those that do
+-- the word that a line begins with that gives a reply, by itself, or behind a byte order mark or a
+-- tab
+abbrev pub is_used : List ℕ → Bool
+is_used word =
+    bytes_eq word (codes "used")
+    || (bytes_eq word (239 ∷ 187 ∷ 191 ∷ codes "used") || bytes_eq word (9 ∷ codes "used"))
+
+abbrev pub has_used : List ℕ → Bool
+has_used line = list_any is_used (words_of line)
+
+abbrev pub begins_so : List ℕ → Bool
+begins_so line = starts_with nat_eq line (codes "used")
+
+-- a line that gives no reply was torn where it begins as those that do, or has that word further on
 abbrev pub is_torn : List ℕ → Bool
-is_torn line = starts_with nat_eq line (codes "used")
+is_torn line = begins_so line || has_used line
 
 -- and is of a script where it begins as those of one
 abbrev pub has_script_bytes : List ℕ → Bool
@@ -59,7 +74,8 @@ abbrev pub torn_mark : List ℕ → List ℕ
 torn_mark line =
     if ends_in_return line
     then codes " (torn: it ends with a carriage return; tr -d '\\r' takes those away)"
-    else codes " (torn: expected `used G LEN HEX`)"
+    else (if begins_so line then codes " (torn: expected `used G LEN HEX`)"
+    else codes " (torn: something stands before `used`, with which a line begins)")
 
 abbrev pub mark_of : List ℕ → List ℕ
 mark_of line =

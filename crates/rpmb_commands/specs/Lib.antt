@@ -1,3 +1,4 @@
+pub mod BoardImage
 pub mod Refusing
 pub mod Said
 pub mod KeySaid

@@ -14,7 +14,8 @@ use std::io::Write;
 const INPUT: &str = "standard input";
 
 /// What is said of a file that has no key.
-const NO_KEY: &str = "a key is 64 hex digits in @FILE, or 32 bytes in @raw:FILE";
+const NO_KEY: &str = "a key is 64 hex digits in @FILE, and nothing between or behind them, or 32 \
+    bytes in @raw:FILE";
 
 /// What is said of a file that is read as a board, and is too long or no text.
 const NO_BOARD: &str =
@@ -34,6 +35,14 @@ const CUT: &str = "it is full or closed, or who read it is gone; what stands the
 /// What is said where no line of a run comes.
 const NO_LINES: &str = "what `rpmbd run` prints is wanted here; did that end with a fault, or was \
     its script empty?";
+
+/// What is said where no line gives an answer that is read.
+const NO_WHOLE_LINES: &str = "no line begins with `used` and is whole; explain tells of each line \
+    what it is";
+
+/// What is said where no answer has the nonce.
+const NO_SUCH_NONCE: &str = "no whole line answers the read of this nonce; explain tells of each \
+    line what it is";
 
 /// What is said where no byte is to be written.
 const NO_BYTE: &str = "has no byte, and --pad fills up none; give at least one";
@@ -56,8 +65,8 @@ static RESULTS: [(u16, &str, &str); 7] = [
         0x0001,
         "GENERAL_FAILURE",
         "the request isn't whole frames of one type; has no block, or more than max_wr_cnt or \
-         max_rd_cnt (16) or than WRITABLE has room for; asks for the result of none; or the \
-         host's disk failed",
+         max_rd_cnt in the board file (16 where it has none) or than WRITABLE has room for; asks \
+         for the result of none; or the host's disk failed",
     ),
     (0x0002, "AUTH_FAILURE", "the request had another --key"),
     (
@@ -111,6 +120,10 @@ const NO_FRAMES: &str = "its request asked for none (--no-result), or needs WRIT
 /// What is said where standard input gives no lines.
 const NO_PIPE: &str = "give it what `rpmbd run` prints, by a pipe or from a file";
 
+fn is_decimal(word: &str) -> bool {
+    word.as_bytes().iter().all(|byte| byte.is_ascii_digit())
+}
+
 fn is_hex(word: &str) -> bool {
     word.len() % 2 == 0 && word.as_bytes().iter().all(|byte| byte.is_ascii_hexdigit())
 }
@@ -140,6 +153,8 @@ fn bad_key<'a>(words: &Words<'a>) -> Option<&'a str> {
 fn help_with_key(word: &str, has_guest: bool) -> &'static str {
     if word.contains('=') && !has_guest {
         NO_GUEST_KEY
+    } else if word.contains('@') {
+        "an @ begins the name of a file: @FILE, and of guest G alone G=@FILE"
     } else {
         "64 hex digits are wanted, or @FILE that has them"
     }
@@ -148,6 +163,8 @@ fn help_with_key(word: &str, has_guest: bool) -> &'static str {
 fn help_with_nonce(word: &str) -> &'static str {
     if word.starts_with('@') {
         "32 hex digits are wanted; --key alone takes @FILE"
+    } else if word.contains(' ') {
+        "32 hex digits are wanted, and no space between them"
     } else {
         "32 hex digits are wanted"
     }
@@ -250,6 +267,9 @@ fn advice_on_option<'a>(
             Some((name, NO_KEY))
         }
         OptionRefusal::BadHexFile(name, _) => Some((name, NO_KEY)),
+        OptionRefusal::Number(_, word) if !word.is_empty() && !is_decimal(word) => {
+            Some((word, "decimal digits are wanted"))
+        }
         OptionRefusal::ByteOrderMark(name) => Some((name, "save it without one")),
         OptionRefusal::SecondLine(name) => Some((
             name,
@@ -275,10 +295,11 @@ fn help_with_result(code: &str) -> (&'static str, &'static str) {
 /// What helps where an answer isn't the one that was asked for.
 fn advice_on_answer(refusal: &Refusal<'_>) -> Option<(&'static str, &'static str)> {
     match refusal {
-        Refusal::NoReply(_) | Refusal::NoAnswer(0, _) => Some((INPUT, NO_LINES)),
+        Refusal::NoReply(_) => Some((INPUT, NO_LINES)),
+        Refusal::NoAnswer(0, _) => Some((INPUT, NO_WHOLE_LINES)),
         Refusal::LongLine(_) => Some((INPUT, NO_RUN)),
         Refusal::NoInput(_) => Some((INPUT, NO_PIPE)),
-        Refusal::NoAnswer(_, 0) => Some(("--nonce", "none of them answers the read of this nonce")),
+        Refusal::NoAnswer(_, 0) => Some(("--nonce", NO_SUCH_NONCE)),
         Refusal::NoAnswer(_, _) => Some(("--nonce", "each question wants a nonce of its own")),
         Refusal::WrongAnswer(_, _, doubt) => Some(("the first of these", doubt.why)),
         Refusal::WrongMac => Some(("--key", OTHER_MAC)),

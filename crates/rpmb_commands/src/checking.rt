@@ -1,12 +1,12 @@
 //! The command that says whether `rpmbd` reads a board file and a script.
+use crate::board_image::check_image;
 use crate::refusal::Refusal;
-use crate::source::{BOARD_FILE, Front, SCRIPT_FILE, Source, SourceError, text_of};
+use crate::source::{BOARD_FILE, SCRIPT_FILE, Source, text_of};
 use crate::words::Words;
 use board_file::{BoardError, read_board};
-use intent_slots::{HeaderFault, Layout};
 use rpmb_client::OptionRefusal;
 use rpmb_frame::BoardConfig;
-use script::{ScriptError, read_script};
+use script::{Line, ScriptError, read_script};
 use std::alloc::Global;
 use std::io;
 use std::io::Write;
@@ -16,9 +16,6 @@ use std::io::Write;
 const LINE_BYTES: usize = 134_217_760;
 
 const LONG_LINE: &str = "has a line of 134217760 bytes and more, and is no script";
-
-/// How many bytes of an image say which version it is of: the last of them does.
-const VERSION_FRONT: u64 = 513;
 
 /// The board of a file, and the path of its image, where it names one.
 fn check_board<'a, S: Source>(
@@ -42,14 +39,42 @@ fn bad_line<'a>(alloc: Global, file: &'a str, line: usize, flaw: &str) -> Refusa
     }
 }
 
+/// How many bytes the memory has of a guest beyond whose memory a line stores.
+fn left_memory(board: &BoardConfig, line: &Line) -> Option<u64> {
+    let (guest, end) = line.stored_up_to()?;
+    let memory = board.guests().get(usize::from(guest))?.memory;
+    if end > memory { Some(memory) } else { None }
+}
+
+/// Refused where a line stores beyond its guest's memory, which ends a run.
+fn check_stores<'a>(
+    alloc: Global,
+    file: &'a str,
+    board: &BoardConfig,
+    lines: &[Line],
+) -> Result<(), Refusal<'a>> {
+    let mut number = 0usize;
+    for line in lines {
+        number = number.saturating_add(1);
+        if let Some(memory) = left_memory(board, line) {
+            let text = "the store reaches beyond its guest's memory";
+            return match format!(in alloc; "{text}, which has {memory} bytes") {
+                Ok(flaw) => Err(bad_line(alloc, file, number, flaw.as_str())),
+                Err(_) => Err(Refusal::NoMemory),
+            };
+        }
+    }
+    Ok(())
+}
+
 fn check_text<'a>(
     alloc: Global,
     file: &'a str,
     text: &str,
-    guests: u16,
+    board: &BoardConfig,
 ) -> Result<(), Refusal<'a>> {
-    match read_script(alloc, text, guests) {
-        Ok(_) => Ok(()),
+    match read_script(alloc, text, board.guests().len() as u16) {
+        Ok(lines) => check_stores(alloc, file, board, lines.as_slice()),
         Err(ScriptError::BadScript { line, flaw }) => {
             Err(bad_line(alloc, file, line, flaw.as_str()))
         }
@@ -79,11 +104,11 @@ fn check_script<'a, S: Source>(
     alloc: Global,
     source: &S,
     file: &'a str,
-    guests: u16,
+    board: &BoardConfig,
 ) -> Result<bool, Refusal<'a>> {
     let text = text_of(alloc, source, file, SCRIPT_FILE)?;
     check_lengths(file, text.as_str())?;
-    check_text(alloc, file, text.as_str(), guests)?;
+    check_text(alloc, file, text.as_str(), board)?;
     Ok(is_cut(text.as_str()))
 }
 
@@ -96,59 +121,8 @@ fn write_cut<'a, W: Write>(file: &str, out: &mut W) -> Result<(), Refusal<'a>> {
     }
 }
 
-/// Of which version an image of a board is by its first bytes and its length, or why it is none.
-fn version_of(
-    board: &BoardConfig,
-    front: &[u8],
-    length: u64,
-) -> Result<&'static str, &'static str> {
-    if front.len() < 513 {
-        return Err("has too few bytes for one");
-    }
-    let layout = Layout::of(board);
-    match layout.check_header(front) {
-        Err(HeaderFault::NotFormatted) => Err("is none"),
-        Err(HeaderFault::OtherConfig) => Err("is another board's (other guests or capacities)"),
-        Ok(()) if length != layout.length() => Err("has another length than this board's"),
-        Ok(()) if front[512] == 2 => Ok(" of version 2"),
-        Ok(()) => Ok(" of version 1"),
-    }
-}
-
-/// What is said behind the path of an image, which nobody has to have made yet, or why it is none.
-fn state_of<S: Source>(
-    alloc: Global,
-    source: &S,
-    board: &BoardConfig,
-    image: &str,
-) -> Result<&'static str, &'static str> {
-    match source.front(alloc, image, VERSION_FRONT) {
-        Front::Absent => Ok(""),
-        Front::Unread(SourceError::NoFile(why)) => Err(why),
-        Front::Unread(_) => Err("can't be read"),
-        Front::Read(front, length) => version_of(board, front.as_slice(), length),
-    }
-}
-
-/// The path of an image and what is said of it. Refused where it is there and none of this board.
-fn check_image<'a, 'b, S: Source>(
-    alloc: Global,
-    source: &S,
-    file: &'a str,
-    board: &BoardConfig,
-    image: &'b str,
-) -> Result<(&'b str, &'static str), Refusal<'a>> {
-    match state_of(alloc, source, board, image) {
-        Ok(state) => Ok((image, state)),
-        Err(why) => match format!(in alloc; "{image:?} {why}") {
-            Ok(words) => Err(Refusal::BadImage(file, words)),
-            Err(_) => Err(Refusal::NoMemory),
-        },
-    }
-}
-
 /// Writes what a board is good for, with what is said of its image, where it names one.
-fn write_ok<W: Write>(count: usize, image: Option<(&str, &str)>, out: &mut W) -> io::Result<()> {
+fn write_ok<W: Write>(count: usize, image: Option<&(&str, String)>, out: &mut W) -> io::Result<()> {
     let guests = if count == 1 { "guest" } else { "guests" };
     match image {
         Some((path, state)) => writeln!(out, "ok: {count} {guests}, image {path:?}{state}"),
@@ -186,9 +160,8 @@ pub fn check<'a, S: Source, W: Write>(
         return Err(OptionRefusal::Incomplete.into());
     };
     let (board, image) = check_board(alloc, source, file)?;
-    let guests = board.guests().len() as u16;
     let cut = match words.script {
-        Some(script) if check_script(alloc, source, script, guests)? => Some(script),
+        Some(script) if check_script(alloc, source, script, &board)? => Some(script),
         _ => None,
     };
     let image = match image.as_deref() {
@@ -196,7 +169,7 @@ pub fn check<'a, S: Source, W: Write>(
         None => None,
     };
     let count = board.guests().len();
-    if write_ok(count, image, out).is_err() || write_guests(&board, out).is_err() {
+    if write_ok(count, image.as_ref(), out).is_err() || write_guests(&board, out).is_err() {
         return Err(Refusal::NoRoom);
     }
     match cut {

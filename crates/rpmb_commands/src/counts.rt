@@ -19,11 +19,13 @@ pub struct Counts {
     pub lines: u64,
     /// A bit for each guest of whom a frame came.
     pub guests: u64,
+    /// Whether a frame came of a guest of a number that no board has.
+    pub has_stranger: bool,
     /// A bit for each result that a reply has, as `result_bit` gives it.
     pub results: u64,
 }
 
-/// The bit of a guest. None has a number above 63.
+/// The bit of a guest; none of a number above 63, which no board has.
 fn bit(guest: u64) -> u64 {
     if guest < 64 { 1 << guest } else { 0 }
 }
@@ -55,11 +57,12 @@ fn seen(used: &Used) -> u64 {
     bit(used.guest)
 }
 
-/// The guest of a key that judged no frame of those guests, where one of them has no key.
-pub fn unused_key(keys: &Keys, guests: u64) -> Option<u64> {
+/// The guest of a key that judged no frame of those that came, where one of these has no key.
+pub fn unused_key(keys: &Keys, counts: &Counts) -> Option<u64> {
     if keys.others.is_some() {
         return None;
     }
+    let guests = counts.guests;
     let mut left = guests;
     let mut unused = None;
     for own in keys.own.as_slice() {
@@ -69,7 +72,10 @@ pub fn unused_key(keys: &Keys, guests: u64) -> Option<u64> {
             unused = Some(own.guest);
         }
     }
-    if left == 0 { None } else { unused }
+    if left == 0 && !counts.has_stranger {
+        return None;
+    }
+    unused
 }
 
 /// One more, where there is one and a number for it.
@@ -96,6 +102,7 @@ impl Counts {
             doubt: Doubt { line: 0, why: "" },
             lines: 0,
             guests: 0,
+            has_stranger: false,
             results: 0,
         }
     }
@@ -123,6 +130,7 @@ impl Counts {
         self.add_line(is_wrong, why);
         self.has_answer = true;
         self.guests |= seen(used);
+        self.has_stranger = self.has_stranger || used.guest > 63;
         self.results |= seen_result(used);
         self.replies = more(self.replies, true);
         self.refused = more(self.refused, is_refused);

@@ -1,5 +1,6 @@
 //! What is wrong with an answer, in the words behind its refusal. No contract speaks of them.
 
+use crate::other_line::{begins_so, is_of_script};
 use rpmb_client::{Used, is_wrong};
 use rpmb_frame::Frame;
 
@@ -36,11 +37,19 @@ pub(crate) fn doubt_of(used: &Used, nonce: Option<[u8; 16]>) -> &'static str {
 
 /// What is wrong with a line that is no answer.
 pub(crate) fn doubt_of_line(line: &str) -> &'static str {
-    if !line.starts_with("used") {
+    if is_of_script(line) {
         return "is a line of a script: what `rpmbd run` prints of that is wanted here";
     }
     if line.ends_with("\r") {
         return "ends with a carriage return; tr -d '\\r' takes those away";
     }
-    "is torn: the run was stopped, or its output cut; ask for the counter before you go on"
+    if !begins_so(line) {
+        return "has something before its `used` (a byte order mark, a space, a name); take that \
+            away from each line";
+    }
+    if line.contains('\t') || line.contains("  ") {
+        return "has a tab or two spaces; give explain the lines as rpmbd printed them";
+    }
+    "isn't whole: the run was stopped (ask for the counter before you go on), or the line was cut, \
+     wrapped or changed"
 }

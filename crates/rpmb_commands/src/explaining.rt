@@ -318,7 +318,7 @@ fn tell_all<'a, S: Source, B: BufRead, W: Write>(
 {
     let judge = judge_of(alloc, source, words)?;
     let counts = tell_lines(alloc, &judge, input, out)?;
-    match unused_key(&judge.keys, counts.guests) {
+    match unused_key(&judge.keys, &counts) {
         Some(guest) if counts.wrong == 0 => Err(Refusal::UnusedKey(guest)),
         _ => Ok(counts),
     }

@@ -68,8 +68,9 @@ pub const EXPLAIN: &str = "\
 Prints for each line `used G LEN HEX` of standard input a line for each frame of the\n\
 reply: its type, result and fields, whether the nonce is right (with --nonce) and whether\n\
 the MAC is (with --key), and a block in hex digits, and as text where it is one. Any other\n\
-line is printed as it is; one that begins with `used` was torn, and (torn: ..) stands\n\
-behind it, and (of a script: ..) behind one of a script. Each is printed as it comes.\n\
+line is printed as it is; one that begins with `used`, or has that word further on, was\n\
+torn, and (torn: ..) stands behind it, and (of a script: ..) behind one of a script. Each\n\
+is printed as it comes.\n\
 A reply of 0 bytes is told as such, and counts as one: its request asked for none, as by\n\
 --no-result, or had no room. WRITABLE of its chain is to be 512 or a multiple.\n\
 With --json each of these is a JSON object in a line, and other lines stand in one too.\n\
@@ -91,8 +92,8 @@ pub const CHECK: &str = "\
 Prints `ok: N guests, image \"PATH\"`, with the version of the image where it is there, or\n\
 `in memory` in its place, and `guest G: capacity C (K KiB)` for each guest; behind that a\n\
 line where the script may have been cut. `ok` says that `rpmbd run` reads the board file,\n\
-and the script for it where one is named, and that the image isn't there, or begins as one\n\
-of this board. `rpmbd serve` also refuses a `store` line, and `rpmbd format`, `show` and\n\
+and the script for it where one is named, that no line stores beyond its guest's memory,\n\
+and that the image isn't there, or begins as one of this board. `rpmbd serve` also refuses a `store` line, and `rpmbd format`, `show` and\n\
 `upgrade` a board without the key image.\n\
 \n\
 Status: 0 for ok; 1 where a file isn't read or the image is none of this board, with a line\n\

@@ -4,6 +4,7 @@
 
 mod advice;
 mod asked;
+mod board_image;
 mod checking;
 mod counts;
 mod doubts;

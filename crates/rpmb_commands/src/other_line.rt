@@ -2,8 +2,9 @@
 ghost use Rattle.std.specs.Prelude.{◌≡◌, ◌++◌, ◌∷◌, [], IfOk, OnOk};
 ghost use Rattle.std.specs.Io.KnownBytes.{Appends};
 ghost use Rattle.json.specs.Print.{quoted};
-ghost use Rattle.rpmb_commands.specs.Explaining.{ends_in_return, has_script_bytes, is_no_answer};
-ghost use Rattle.rpmb_commands.specs.Explaining.{is_of_script, is_torn, mark_of, other_told};
+ghost use Rattle.rpmb_commands.specs.Explaining.{begins_so, ends_in_return, has_script_bytes};
+ghost use Rattle.rpmb_commands.specs.Explaining.{has_used, is_no_answer, is_of_script, is_torn};
+ghost use Rattle.rpmb_commands.specs.Explaining.{is_used, mark_of, other_told};
 ghost use Rattle.rpmb_commands.specs.Explaining.{torn_mark};
 ghost use Rattle.rpmb_commands.specs.LineObject.{line_object, object_of};
 
@@ -13,10 +14,34 @@ use std::alloc::{AllocError, Global};
 use std::io::Write;
 
 /// Whether a line that gives no reply begins as those that do.
+pub(crate) fn begins_so(line: &str) -> bool
+    ensures { result ≡ begins_so line.now }
+{
+    line.starts_with("used")
+}
+
+/// Whether a word is the one that those begin with, by itself, or behind a byte order mark or a tab.
+fn is_used(word: &str) -> bool
+    ensures { result ≡ is_used word.now }
+{
+    word == "used" || word == "\u{feff}used" || word == "\tused"
+}
+
+fn has_used(line: &str) -> bool
+    ensures { result ≡ has_used line.now }
+{
+    let mut has_one = false;
+    for word in line.split(' ') {
+        has_one = has_one || is_used(word);
+    }
+    has_one
+}
+
+/// Whether it begins as they do, or has their first word further on.
 fn is_torn(line: &str) -> bool
     ensures { result ≡ is_torn line.now }
 {
-    line.starts_with("used")
+    begins_so(line) || has_used(line)
 }
 
 /// Whether it begins as the lines of a script do that have bytes.
@@ -27,7 +52,7 @@ fn has_script_bytes(line: &str) -> bool
 }
 
 /// Whether it begins as the lines of a script do, which `rpmbd run` reads.
-fn is_of_script(line: &str) -> bool
+pub(crate) fn is_of_script(line: &str) -> bool
     ensures { result ≡ is_of_script line.now }
 {
     has_script_bytes(line) || line.starts_with("reset ")
@@ -52,8 +77,10 @@ fn torn_mark(line: &str) -> &'static str
 {
     if ends_in_return(line) {
         " (torn: it ends with a carriage return; tr -d '\\r' takes those away)"
-    } else {
+    } else if begins_so(line) {
         " (torn: expected `used G LEN HEX`)"
+    } else {
+        " (torn: something stands before `used`, with which a line begins)"
     }
 }
 

@@ -16,7 +16,7 @@ pub enum Refusal<'a> {
     Option(OptionRefusal<'a>),
     /// A word of a key isn't one, and a file has its name.
     #[error("BadKey: expected for --key 32 bytes in hex digits, got the name of a file; \
-        for a file say @{0}")]
+        a file is named behind an @: @{0}")]
     FileName(&'a str),
     #[error("BadKey: expected for --key one key for each guest, got a second one for guest {0}")]
     SecondKey(u64),

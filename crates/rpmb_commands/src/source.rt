@@ -5,6 +5,7 @@ ghost use Rattle.rpmb_commands.specs.KeySaid.{IsWhyNoContent};
 use crate::refusal::Refusal;
 use std::alloc::Global;
 use std::io::Read;
+use std::path::Path;
 use std::rt::Files;
 use std::{fs, io};
 
@@ -34,7 +35,11 @@ pub(crate) const ROUND_LINKS: &str = "leads round in links";
 
 const NO_PLAIN: &str = "is no plain file";
 
+const DEAD_LINK: &str = "is a link to a file that isn't there";
+
 pub(crate) const LONG_PATH: &str = "the path is too long";
+
+const NUL_PATH: &str = "the path has a byte of zero (NUL), or another that no path has";
 
 /// Why a file isn't read.
 #[derive(Clone, Copy, Debug)]
@@ -52,6 +57,8 @@ pub enum SourceError {
 pub enum Front {
     /// Nothing has its name.
     Absent,
+    /// Nor has anything that of its folder.
+    NoFolder,
     /// It can't be read, for this reason.
     Unread(SourceError),
     /// Its first bytes, and how many it has.
@@ -90,6 +97,7 @@ fn error_of(error: &io::Error) -> SourceError {
         io::ErrorKind::NotADirectory => SourceError::NoFile(NO_PATH),
         io::ErrorKind::FilesystemLoop => SourceError::NoFile(ROUND_LINKS),
         io::ErrorKind::InvalidFilename => SourceError::NoFile(LONG_PATH),
+        io::ErrorKind::InvalidInput => SourceError::NoFile(NUL_PATH),
         _ => SourceError::NoFile("a read of it failed"),
     }
 }
@@ -132,11 +140,31 @@ fn front_of<R: Files + AllocGlobal>(rt: &R, path: &str, most: u64) -> io::Result
     Ok(Front::Read(bytes, found.len()))
 }
 
+/// Whether the path itself is a link, wherever it leads.
+fn is_link<R: Files>(rt: &R, path: &str) -> bool {
+    match fs::symlink_metadata(rt, path) {
+        Ok(found) => found.is_symlink(),
+        Err(_) => false,
+    }
+}
+
+/// Whether the folder of a path is there.
+fn has_folder<R: Files>(rt: &R, path: &str) -> bool {
+    match Path::new(path).parent() {
+        Some(folder) if !folder.as_str().is_empty() => fs::metadata(rt, folder.as_str()).is_ok(),
+        _ => true,
+    }
+}
+
 /// How the file of a path begins, as `Source::front` gives it.
 pub fn read_front<R: Files + AllocGlobal>(rt: &R, path: &str, most: u64) -> Front {
     match front_of(rt, path, most) {
         Ok(front) => front,
         Err(error) => match error.kind() {
+            io::ErrorKind::NotFound if is_link(rt, path) => {
+                Front::Unread(SourceError::NoFile(DEAD_LINK))
+            }
+            io::ErrorKind::NotFound if !has_folder(rt, path) => Front::NoFolder,
             io::ErrorKind::NotFound => Front::Absent,
             _ => Front::Unread(error_of(&error)),
         },
