@@ -12,21 +12,19 @@ use commands::{
     write_reason,
 };
 use disk::{Disk, FileDisk};
-use rpmb_frame::BoardConfig;
+use rpmb_frame::{BoardConfig, GuestConfig};
 use script::read_number;
 
 /// What a script of requests is called where it is told of.
 const REQUEST: &str = "the request";
 
 /// What a guest is told to be by the result and the type that its reply ends with.
-static HELP: [(&str, &str); 5] = [
+static HELP: [(&str, &str); 3] = [
     (
         "00050100",
         "has a key already: this very one where the MAC is right, else another",
     ),
     ("00070200", "has no key yet; program-key gives it one"),
-    ("00010000", "writes at most max_wr_cnt: say --max-blocks"),
-    ("00010400", "reads at most max_rd_cnt blocks at once"),
     ("00800300", "is at the end of its counter: no more writes"),
 ];
 
@@ -92,11 +90,20 @@ impl<'a> Place<'a> {
         }
     }
 
+    /// How the guest is set up, where the board has it.
+    fn config(&self) -> Option<&GuestConfig> {
+        let guests = self.board.guests();
+        read_number(self.guest).and_then(|number| guests.get(number as usize))
+    }
+
     /// The last block of the guest, where the board has it.
     fn last_block(&self) -> Option<u32> {
-        let guests = self.board.guests();
-        let guest = read_number(self.guest).and_then(|number| guests.get(number as usize))?;
-        Some((512 * u32::from(guest.capacity)).saturating_sub(1))
+        let guest = self.config()?;
+        Some(
+            512u32
+                .saturating_mul(u32::from(guest.capacity))
+                .saturating_sub(1),
+        )
     }
 
     /// Tells where the blocks of the guest end.
@@ -120,12 +127,31 @@ impl<'a> Place<'a> {
         }
     }
 
+    /// Tells how many blocks a request may have, where a reply of lines may be of one that had more.
+    fn tell_limits(&self, rt: &HostRuntime, lines: &[u8]) {
+        let (file, number) = (self.file, self.guest);
+        let Some(guest) = self.config() else {
+            return;
+        };
+        if ends_so(lines, "00010000") {
+            let most = guest.max_wr_cnt;
+            let text = "blocks at once (max_wr_cnt): say --max-blocks";
+            let _ = eprintln!(rt; "{file}: guest {number} writes at most {most} {text} {most}");
+        }
+        if ends_so(lines, "00010400") {
+            let most = guest.max_rd_cnt;
+            let text = "blocks at once (max_rd_cnt): say --count";
+            let _ = eprintln!(rt; "{file}: guest {number} reads at most {most} {text} {most}");
+        }
+    }
+
     /// Tells what helps, where a reply of lines ends with a result and a type of which it is known.
     pub fn tell_help(&self, rt: &HostRuntime, lines: &[u8]) {
         let (file, number) = (self.file, self.guest);
         if ends_so(lines, "00040300") || ends_so(lines, "00040400") {
             self.tell_end(rt);
         }
+        self.tell_limits(rt, lines);
         for (end, what) in HELP.iter() {
             if ends_so(lines, end) {
                 let _ = eprintln!(rt; "{file}: guest {number} {what}");

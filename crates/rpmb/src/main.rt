@@ -70,7 +70,8 @@ fn refuse_words(rt: &HostRuntime, error: GivenError) -> u8 {
     match error {
         GivenError::NoMemory => report(Refusal::NoMemory, &mut rt.stderr()),
         GivenError::NotText => {
-            let _ = eprintln!(rt; "error: a word of the command line isn't UTF-8");
+            let why = "isn't text in UTF-8; rename the file that it names";
+            let _ = eprintln!(rt; "error: a word of the command line {why}");
             REFUSED
         }
     }
