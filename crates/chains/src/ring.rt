@@ -5,7 +5,7 @@ ghost use Rattle.std.specs.Prelude.{OnErr, length, [], Err, None};
 ghost use Rattle.chains.specs.Range.{AreInside};
 ghost use Rattle.chains.specs.Walk.{reads_of};
 ghost use Rattle.chains.specs.Ring.{first_state, MayBeUsed, IsFree, Stays, Finds, Pops};
-ghost use Rattle.chains.specs.Ring.{CountsReads, Publishes};
+ghost use Rattle.chains.specs.Ring.{CountsReads, Publishes, resting, may_rest};
 ghost use Rattle.chains.specs.Building.{BelievesCopies};
 ghost use Rattle.chains.specs.Needs.{IsNeeded};
 ghost use Rattle.chains.specs.Start.{descriptors_of};
@@ -55,6 +55,31 @@ impl<R: Rules> Ring<R> {
         }
         Ok(Ring {
             counts: Counts::new(alloc, places, size),
+            rules: PhantomData,
+        })
+    }
+
+    /// A ring that goes on: `used` of its places were popped and used, the last of their chains had
+    /// the number `last`, and none is outstanding. It takes no memory.
+    ///
+    /// Answers `BadRange` where a ring of this kind can't have this size, or an area isn't aligned.
+    pub fn resting(
+        alloc: Global,
+        places: Places,
+        size: u16,
+        last: u64,
+        used: u128,
+    ) -> Result<Ring<R>, RingFault>
+        requires { may_rest last used ≡ true }
+        ensures succeeds { IsOk result ↔ R.is_ring places size }
+        ensures ok { IfOk result (λ ring. ring ≡ resting places size last used) }
+        ensures err { OnErr result (result ≡ Err (RingFault.Refused ChainFault.BadRange)) }
+    {
+        if !R::is_ring(&places, size) {
+            return Err(RingFault::Refused(ChainFault::BadRange));
+        }
+        Ok(Ring {
+            counts: Counts::resting(alloc, places, size, last, used),
             rules: PhantomData,
         })
     }

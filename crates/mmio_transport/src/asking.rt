@@ -69,7 +69,7 @@ impl Model for AskingDevice {
 }
 
 /// One more, but for a count that stands at its end.
-fn counted(count: u64) -> u64
+pub(crate) fn counted(count: u64) -> u64
     ensures { result ≡ counted count }
 {
     if count == u64::MAX { count } else { count + 1 }
