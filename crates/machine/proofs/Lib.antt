@@ -6,10 +6,12 @@ pub mod Formatting
 pub mod Goings
 pub mod Jobs
 pub mod Replies
+pub mod Rests
 pub mod Moved
 pub mod Others
 pub mod Popping
 pub mod Runs
+pub mod States
 pub mod Stops
 pub mod Told
 pub mod Writing

@@ -41,7 +41,7 @@ pub enum MachineFault {
     /// The bytes are no image.
     #[error("NotFormatted")]
     NotFormatted,
-    /// They are the image of another board.
+    /// They are the image of another board, or the state of another guest.
     #[error("OtherConfig")]
     OtherConfig,
     /// There are more or fewer bytes than the board's image has.
@@ -50,6 +50,14 @@ pub enum MachineFault {
     /// A success was told where no sync is awaited, or where writes still wait.
     #[error("NotAwaited")]
     NotAwaited,
+    /// A chain of the guest waits for its answer, or something is still to be written to its memory,
+    /// or to be told to its driver: it is to be served on.
+    #[error("NotAtRest")]
+    NotAtRest,
+    /// The words are no whole state of a device, of this version; or no queue can stand where they
+    /// say.
+    #[error("BadState")]
+    BadState,
 }
 
 impl MachineFault {

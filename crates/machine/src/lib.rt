@@ -10,9 +10,11 @@ mod handing;
 mod leaving;
 mod machine;
 mod opening;
+mod resting;
 mod serving;
 mod settings;
 mod starting;
+mod state;
 mod taking;
 mod turn;
 
@@ -21,3 +23,4 @@ pub use machine::{Machine, Served, What};
 pub use opening::{format_image, image_length};
 pub use settings::Setup;
 pub use starting::Areas;
+pub use state::STATE_WORDS;

@@ -63,9 +63,9 @@ pub struct Served {
 /// nothing of a guest's memory but, within a step of a device, what it was told for that.
 #[derive(Drop)]
 pub struct Machine {
-    board: AskingBoard<OutboxDisk>,
-    setups: Vec<Setup>,
-    turns: Vec<Turn>,
+    pub(crate) board: AskingBoard<OutboxDisk>,
+    pub(crate) setups: Vec<Setup>,
+    pub(crate) turns: Vec<Turn>,
 }
 
 impl Model for Machine {

@@ -1,7 +1,7 @@
 //! A monitor over an image in memory, which answers what a serve needs by its guests' memory.
 ghost use Rattle.std.specs.Prelude.{◌+◌, ◌≤◌, IfSome, length};
 
-use machine::{Machine, Served, Setup, What, format_image, image_length};
+use machine::{Machine, MachineFault, Served, Setup, What, format_image, image_length};
 use mmio_transport::Kick;
 use rpmb_frame::GuestConfig;
 use std::alloc::Global;
@@ -54,6 +54,15 @@ pub trait Calls: Drop {
 
     fn broke(&self) -> bool;
 
+    /// Why no state is saved, or taken.
+    fn save_state(&self, guest: u16, out: &mut [u32]) -> Option<MachineFault>;
+
+    fn load_state(&mut self, guest: u16, state: &[u32]) -> Option<MachineFault>;
+
+    fn place_of(&self, guest: u16) -> Option<u16>;
+
+    fn move_queue(&mut self, guest: u16, place: u16) -> bool;
+
     /// Whether it is opened anew over an image.
     fn open_anew(&mut self, alloc: Global, setups: &[Setup], image: &[u8]) -> bool;
 }
@@ -89,6 +98,22 @@ impl Calls for Machine {
 
     fn broke(&self) -> bool {
         self.is_broken()
+    }
+
+    fn save_state(&self, guest: u16, out: &mut [u32]) -> Option<MachineFault> {
+        self.save(guest, out).err()
+    }
+
+    fn load_state(&mut self, guest: u16, state: &[u32]) -> Option<MachineFault> {
+        self.load(guest, state).err()
+    }
+
+    fn place_of(&self, guest: u16) -> Option<u16> {
+        self.place(guest)
+    }
+
+    fn move_queue(&mut self, guest: u16, place: u16) -> bool {
+        self.move_to(guest, place)
     }
 
     fn open_anew(&mut self, alloc: Global, setups: &[Setup], image: &[u8]) -> bool {

@@ -1,0 +1,20 @@
+use Rattle.std.proofs.Common.{sym, ◌∙◌}
+use Rattle.machine.specs.Resting.{CantStand, NoPlace, NotReady, NotResting, Nowhere}
+use Rattle.machine.proofs.machine.Machine.move_to.Goals as goal
+
+pub returns-in_default-clause-stays : goal.returns-in_default-clause-stays
+returns-in_default-clause-stays c is = Nowhere (NotResting (c.rest_at.ensures.none c.in_default.is))
+
+pub returns-in_default-queue-clause-stays : goal.returns-in_default-queue-clause-stays
+returns-in_default-queue-clause-stays c is =
+    Nowhere (NotReady c.in-Some.it c.in-Some.ensures.some c.in_default-queue.is)
+
+pub returns-in_default-at-clause-stays : goal.returns-in_default-at-clause-stays
+returns-in_default-at-clause-stays c is =
+    NoPlace c.in-Some.it c.in-Some-queue.queue c.in-Some.ensures.some c.in-Some-queue.is
+    (sym c.at.ensures ∙ c.in_default-at.is)
+
+pub returns-clause-stays : goal.returns-clause-stays
+returns-clause-stays c stays =
+    CantStand c.in-Some.it c.in-Some-queue.queue c.in-Some-at.moved c.in-Some.ensures.some
+    c.in-Some-queue.is (sym c.at.ensures ∙ c.in-Some-at.is) (c.go_on_as.ensures.cant stays)
