@@ -506,6 +506,77 @@ static void check_regions(void)
 	printf("copies over the border of two regions\n");
 }
 
+/* 6. A device goes on behind another opening: as it was saved, or at the place where its queue stood. */
+
+static void open_anew(const struct rpmb_guest *guests, size_t count)
+{
+	size_t length;
+	unsigned char *image = fresh(guests, count, &length);
+
+	rpmb_close(&host);
+	check_fault(rpmb_open(guests, count, image, length, &host), RPMB_OK, "another opening");
+	free(image);
+}
+
+static void check_next(struct driver *d, uint32_t place)
+{
+	request(d, 1, 2);
+	offer(d, 1, 1);
+	settle(d);
+	check_answer(d, 1, 2, 7, "the answer to the next chain");
+	check(rpmb_place(&host, d->guest) == place, "the place behind it");
+}
+
+static void check_state(const struct driver *d, const uint32_t *state)
+{
+	uint32_t other[RPMB_STATE_WORDS];
+
+	check_fault(rpmb_load(&host, 0, state, RPMB_STATE_WORDS), RPMB_OTHER_CONFIG, "another guest's state");
+	check_fault(rpmb_load(&host, 2, state, RPMB_STATE_WORDS), RPMB_NO_GUEST, "a state of a guest that there isn't");
+	check_fault(rpmb_load(&host, 1, state, RPMB_STATE_WORDS - 1), RPMB_BAD_STATE, "a state that is cut short");
+	check(rpmb_place(&host, 1) == RPMB_NO_PLACE && !rpmb_move(&host, 1, 0), "no queue yet");
+	check_fault(rpmb_load(&host, 1, state, RPMB_STATE_WORDS), RPMB_OK, "rpmb_load");
+	check_fault(rpmb_save(&host, 1, other, RPMB_STATE_WORDS), RPMB_OK, "rpmb_save");
+	check(!memcmp(state, other, sizeof other), "the same state");
+	check(rpmb_interrupt(&host, 1) == 1 && rpmb_read(&host, d->guest, 0x070, 4) == 15, "its line, its Status");
+}
+
+static void check_going_on(int packed)
+{
+	/* VERSION_1, RING_PACKED; a chain takes two places of a packed ring, of which four make a lap */
+	const uint64_t features = 1ull << 32 | (uint64_t)packed << 34;
+	const uint32_t first = packed ? 0x8002 : 1, second = packed ? 0 : 2;
+	const struct rpmb_guest guests[2] = { plain, plain };
+	struct driver *d = &drivers[1];
+	const struct rpmb_queue queue = { .driver = DRIVER, .device = DEVICE, .size = 4 };
+	uint32_t state[RPMB_STATE_WORDS];
+
+	open_fresh(guests, 2);
+	check_counter(d, 4, packed, 7);
+	check(rpmb_place(&host, 1) == first, "the place behind the first chain");
+	check_fault(rpmb_save(&host, 1, state, 1), RPMB_OUT_OF_RANGE, "too little room for a state");
+	check_fault(rpmb_save(&host, 2, state, RPMB_STATE_WORDS), RPMB_NO_GUEST, "a guest that there isn't");
+	check_fault(rpmb_save(&host, 1, state, RPMB_STATE_WORDS), RPMB_OK, "rpmb_save");
+	open_anew(guests, 2);
+	check_state(d, state);
+	check_next(d, second);
+	check_counter(d, 4, packed, 7);
+	open_anew(guests, 2);
+	check(rpmb_start(&host, 1, features, &queue) == 1, "rpmb_start");
+	check(!packed || !rpmb_move(&host, 1, 4), "a place behind the last one");
+	check(rpmb_move(&host, 1, (uint16_t)first) == 1, "rpmb_move");
+	check_next(d, second);
+	negotiate(d, 4, packed);
+	offer_key(d);
+	serve(d);
+	check(d->next.waiting, "the key waits for a sync");
+	check_fault(rpmb_save(&host, 1, state, RPMB_STATE_WORDS), RPMB_NOT_AT_REST, "a guest that waits");
+	check(rpmb_place(&host, 1) == RPMB_NO_PLACE && !rpmb_move(&host, 1, 0), "it has no place");
+	settle(d);
+	check_fault(rpmb_save(&host, 1, state, RPMB_STATE_WORDS), RPMB_OK, "behind its answer");
+	close_board(2);
+}
+
 int main(void)
 {
 	check_guests();
@@ -513,5 +584,8 @@ int main(void)
 	check_between();
 	check_images();
 	check_regions();
+	check_going_on(0);
+	check_going_on(1);
+	printf("devices that go on, on both rings\n");
 	return 0;
 }

@@ -27,6 +27,8 @@ fault_number fault.NotFormatted = 9
 fault_number fault.OtherConfig = 10
 fault_number fault.BadLength = 11
 fault_number fault.NotAwaited = 12
+fault_number fault.NotAtRest = 13
+fault_number fault.BadState = 14
 
 -- the same, and 0 where there is none
 abbrev pub told_number : Option MachineFault → ℕ

@@ -10,6 +10,7 @@ ghost use Rattle.rpmb_host.specs.Calls.{Serves};
 ghost use Rattle.rpmb_host.specs.Calls.{IsUp, Offers, Selects, Spans, Starts, Stops};
 ghost use Rattle.rpmb_host.specs.Calls.{Syncs, Takes, Waits, Writes};
 ghost use Rattle.rpmb_host.specs.Guests.{areas_of, setup_of};
+ghost use Rattle.rpmb_host.specs.States.{GoesTo, Loads, Saves, StandsAt, Stays, Unloaded, Unsaved};
 
 mod guests;
 mod handle;
@@ -292,4 +293,70 @@ pub extern "C" fn rpmb_interrupt(alloc: Global, host: &mut Handle, guest: u16) -
     let status = machine.interrupt(guest);
     put(host, machine);
     status
+}
+
+/// Saves the state of a guest's device, which is at rest.
+#[unsafe(no_mangle)]
+pub extern "C" fn rpmb_save(alloc: Global, host: &mut Handle, guest: u16, state: &mut [u32]) -> u32
+    requires { is_some host.old.value ≡ true }
+    ensures saved { result ≡ 0 → Holds host.old.value (Saves guest state.new) }
+    ensures refused { 0 < result
+        → Holds host.old.value (Unsaved guest (length state.old) result) }
+    ensures unchanged { host.new.value ≡ host.old.value }
+    ensures untouched { 0 < result → state.new ≡ state.old }
+{
+    let machine = take(alloc, host);
+    let saved = machine.save(guest, state);
+    put(host, machine);
+    match saved {
+        Ok(()) => 0,
+        Err(fault) => fault_number(fault),
+    }
+}
+
+/// A guest's device goes on as the one that was saved.
+#[unsafe(no_mangle)]
+pub extern "C" fn rpmb_load(alloc: Global, host: &mut Handle, guest: u16, state: &[u32]) -> u32
+    requires { is_some host.old.value ≡ true }
+    ensures loads { result ≡ 0 → Between host.old.value host.new.value (Loads guest state.now) }
+    ensures refused { 0 < result → Holds host.old.value (Unloaded guest result state.now) }
+    ensures unchanged { 0 < result → host.new.value ≡ host.old.value }
+{
+    let mut machine = take(alloc, host);
+    let loaded = machine.load(guest, state);
+    put(host, machine);
+    match loaded {
+        Ok(()) => 0,
+        Err(fault) => fault_number(fault),
+    }
+}
+
+/// The place at which a guest's queue rests; all ones where it has none now.
+#[unsafe(no_mangle)]
+pub extern "C" fn rpmb_place(alloc: Global, host: &mut Handle, guest: u16) -> u32
+    requires { is_some host.old.value ≡ true }
+    ensures place { Holds host.old.value (StandsAt guest result) }
+    ensures unchanged { host.new.value ≡ host.old.value }
+{
+    let machine = take(alloc, host);
+    let place = machine.place(guest);
+    put(host, machine);
+    match place {
+        Some(place) => u32::from(place),
+        None => u32::MAX,
+    }
+}
+
+/// A guest's queue, which is at rest, goes on at another place: 1 where it does, else 0.
+#[unsafe(no_mangle)]
+pub extern "C" fn rpmb_move(alloc: Global, host: &mut Handle, guest: u16, place: u16) -> u32
+    requires { is_some host.old.value ≡ true }
+    ensures moves { 0 < result → Between host.old.value host.new.value (GoesTo guest place) }
+    ensures stays { result ≡ 0 → Holds host.old.value (Stays guest place) }
+    ensures unchanged { result ≡ 0 → host.new.value ≡ host.old.value }
+{
+    let mut machine = take(alloc, host);
+    let moves = machine.move_to(guest, place);
+    put(host, machine);
+    if moves { 1 } else { 0 }
 }

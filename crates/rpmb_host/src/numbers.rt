@@ -23,6 +23,8 @@ pub(crate) fn fault_number(fault: MachineFault) -> u32
         MachineFault::OtherConfig => 10,
         MachineFault::BadLength => 11,
         MachineFault::NotAwaited => 12,
+        MachineFault::NotAtRest => 13,
+        MachineFault::BadState => 14,
     }
 }
 
