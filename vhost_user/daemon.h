@@ -82,6 +82,7 @@ struct daemon {
 	struct rpmb_guest board[GUESTS];
 	struct guest guests[GUESTS];
 	unsigned count;
+	bool ends;                     /* TERM or INT came */
 	struct rpmb_host host;
 	struct disk disk;
 	aio_context_t signals;         /* by which eventfds are signalled */
@@ -108,6 +109,7 @@ bool take_kick(struct guest *g);
 bool serve(struct guest *g);
 
 /* session.c: what the front end says */
+uint16_t first_place(const struct guest *g);
 bool receive(struct guest *g);
 bool end_stop(struct guest *g);
 void drop(struct guest *g);

@@ -104,18 +104,6 @@ void reset_device(struct guest *g)
 	g->done = 0;
 }
 
-static bool bring_up(struct guest *g)
-{
-	const struct rpmb_queue its = { .descriptors = g->desc, .driver = g->driver, .device = g->device, .size = g->places };
-
-	g->done = 0;
-	g->up = rpmb_start(&g->daemon->host, g->number, g->features, &its);
-	if (!g->up)
-		COMPLAIN(g, "the device refuses the queue: %u places (256 at most) at %#" PRIx64 ", %#" PRIx64 ", %#" PRIx64
-		         ", features %#" PRIx64, g->places, g->desc, g->driver, g->device, g->features);
-	return g->up;
-}
-
 /* Signals an eventfd, if there is one, or what User Mode Linux has in its place: a socket (a full one has told it already).
  * A write could wait for ever: the front end may fill the counter, and take O_NONBLOCK from the description that it
  * shares. The end of an asynchronous read signals an eventfd without waiting. */
@@ -131,6 +119,22 @@ static void tell(struct daemon *d, int fd)
 	if (send(fd, &one, sizeof one, MSG_DONTWAIT | MSG_NOSIGNAL) < 0 && errno == ENOTSOCK &&
 	    syscall(SYS_io_submit, d->signals, 1L, &its) == 1)
 		syscall(SYS_io_getevents, d->signals, 1L, 1L, &over, NULL);
+}
+
+/* Another program may have had the queue before, and ended before it called: so one call for nothing is made. */
+static bool bring_up(struct guest *g)
+{
+	const struct rpmb_queue its = { .descriptors = g->desc, .driver = g->driver, .device = g->device, .size = g->places };
+
+	g->done = 0;
+	g->up = rpmb_start(&g->daemon->host, g->number, g->features, &its) &&
+	        rpmb_move(&g->daemon->host, g->number, first_place(g));
+	if (g->up)
+		tell(g->daemon, g->call);
+	else
+		COMPLAIN(g, "the device refuses the queue: %u places (256 at most) at %#" PRIx64 ", %#" PRIx64 ", %#" PRIx64
+		         ", base %#x, features %#" PRIx64, g->places, g->desc, g->driver, g->device, g->base, g->features);
+	return g->up;
 }
 
 /* Empties what the guest kicks, without waiting, as above. */

@@ -14,8 +14,9 @@
 #include <sys/un.h>
 #include "daemon.h"
 
-/* of a guest in the loop; rounds of a sync that the end waits for; how long memory may be lacking, or a sync be put off */
-enum { SOCKET, KICK, LISTENER, POLLED, ROUNDS = 8, PAUSE_MS = 20 };
+/* of a guest in the loop; rounds of it, or of a sync, that the end waits for; how long memory may be lacking, or a sync be
+ * put off */
+enum { SOCKET, KICK, LISTENER, POLLED, ROUNDS = 64, PAUSE_MS = 20 };
 
 static const char help[] =
 	"vhost-user-rpmb --image FILE [options] --socket-path PATH ..\n\n"
@@ -52,9 +53,11 @@ static int listen_at(const char *path)
 	return fd;
 }
 
+/* Where the program ends, a guest whose requests are all answered isn't served any more. */
 static bool is_due(const struct guest *g)
 {
-	return g->more && g->running && (g->enabled || g->stopping);
+	return g->more && g->running && (g->enabled || g->stopping) &&
+	       !(g->daemon->ends && (!g->up || rpmb_place(&g->daemon->host, g->number) != RPMB_NO_PLACE));
 }
 
 static void attend(struct guest *g, const struct pollfd *its)
@@ -88,28 +91,29 @@ static bool prepare(const struct daemon *d, struct pollfd *polled, int *wait)
 	return any;
 }
 
-/* Until the end of the last front end that can't come again, or a signal. What is kept is answered before the end: by
- * the sync that is under way then, and a few more where it takes them. */
+/* Until the end of the last front end that can't come again, or a signal. What was taken is answered before the end, by
+ * the sync that is under way then and as many more as it takes: a guest that asks anew while it is answered comes to rest
+ * later. */
 static void loop(struct daemon *d, int signals)
 {
 	struct pollfd polled[2 + POLLED * GUESTS] = { { signals, POLLIN, 0 }, { d->disk.over, POLLIN, 0 } };
 	int rounds = ROUNDS, wait;
 
-	while ((polled[0].fd >= 0 || (d->disk.busy && rounds)) && prepare(d, polled + 2, &wait)) {
+	while (prepare(d, polled + 2, &wait) && (!d->ends || (rounds && (d->disk.busy || !wait)))) {
 		const int ready = poll(polled, 2 + POLLED * d->count, wait);
 
 		if (ready < 0)
 			continue;
 		if (polled[0].revents)
-			polled[0].fd = -1;
-		rounds -= polled[0].fd < 0 && polled[1].revents;
+			d->ends = true, polled[0].fd = -1;
+		rounds -= d->ends && (polled[1].revents || !d->disk.busy);
 		if (polled[1].revents)
 			end_sync(d);
 		for (unsigned i = 0; i < d->count; i++) {
 			d->guests[i].more |= !ready && d->guests[i].later;
 			attend(&d->guests[i], polled + 2 + POLLED * i);
 		}
-		begin_sync(d, !ready && wait);
+		begin_sync(d, (!ready && wait) || d->ends);
 	}
 	for (struct guest *g = d->guests; g < d->guests + d->count; g++) {
 		drop(g);

@@ -6,13 +6,13 @@
 #include <linux/virtio_mmio.h>
 #include "daemon.h"
 
-/* The base of a packed ring that begins: its wraps are 1 (User Mode Linux says 0). The other one stands for the place
- * where a packed ring was stopped, which the library alone knows. */
+/* The base of a packed ring that begins, whose wraps are 1 (for what is taken, and for what is used), and its place. */
 #define PACKED_BASE    0x80008000u
-#define PACKED_STOPPED 0x80018001u
+#define PACKED_PLACE   0x8000u
 /* MQ, REPLY_ACK, BACKEND_REQ, CONFIG, RESET_DEVICE, CONFIGURE_MEM_SLOTS, STATUS */
 #define REPLY_ACK      (1ull << 3)
-#define PROTOCOL       (1ull << 0 | REPLY_ACK | 1ull << 5 | 1ull << 9 | 1ull << 13 | 1ull << 15 | 1ull << 16)
+#define STATUS         (1ull << 16)
+#define PROTOCOL       (1ull << 0 | REPLY_ACK | 1ull << 5 | 1ull << 9 | 1ull << 13 | 1ull << 15 | STATUS)
 
 enum answer { DONE, REFUSED, ANSWERED, LATER };
 enum { VERSION_MASK = 3, IS_REPLY = 4, NEED_REPLY = 8, NO_FD = 256 };
@@ -59,8 +59,7 @@ static enum answer reset(struct guest *g)
 	shut(&g->call);
 	shut(&g->error);
 	reset_device(g);
-	g->enabled = false;
-	g->base = g->status = 0;
+	g->base = g->status = g->enabled = 0;
 	return DONE;
 }
 
@@ -157,30 +156,40 @@ static enum answer set_addresses(struct guest *g)
 	return DONE;
 }
 
-/* A queue begins, or goes on where GET_VRING_BASE stopped it. */
+static bool is_packed(const struct guest *g)
+{
+	return g->features >> VIRTIO_F_RING_PACKED & 1;
+}
+
+/* The place at which the queue begins, or goes on: of a packed ring the upper half says what is used. (User Mode Linux says
+ * 0 where one begins, and takes no STATUS.) */
+uint16_t first_place(const struct guest *g)
+{
+	if (!is_packed(g))
+		return (uint16_t)g->base;
+	return g->base || g->protocol & STATUS ? (uint16_t)(g->base >> 16) : PACKED_PLACE;
+}
+
+/* A queue begins, or goes on: where this program stopped it, or where another one left it. Where it may be that it begins,
+ * nothing is left of a session before. */
 static enum answer set_base(struct guest *g, uint32_t base)
 {
-	const bool begins = !base || (base == PACKED_BASE && g->features >> VIRTIO_F_RING_PACKED & 1);
-
-	if (!begins && !(g->up && base == g->base)) {
-		COMPLAIN(g, "SET_VRING_BASE %#x: a queue begins at place 0, or goes on where this program stopped it", base);
+	if (!is_packed(g) && base > UINT16_MAX)
 		return REFUSED;
-	}
 	stop_ring(g);
-	g->up &= !begins;
+	g->up &= base == g->base && base && base != PACKED_BASE;
 	g->base = base;
 	return DONE;
 }
 
-/* Where the ring stands: of a split one the used index, as no answer is outstanding. */
+/* Where the ring stands, as no answer is outstanding: of a packed one twice, for what was taken and for what is used. */
 static uint32_t ring_base(struct guest *g)
 {
-	uint8_t index[2] = { 0, 0 };
+	const uint32_t place = rpmb_place(&g->daemon->host, g->number);
 
-	if (!g->up || g->features >> VIRTIO_F_RING_PACKED & 1)
-		return g->up ? PACKED_STOPPED : g->base;
-	copy(g, g->device + 2, index, sizeof index, false);
-	return index[0] | (uint32_t)index[1] << 8;
+	if (!g->up || place == RPMB_NO_PLACE)
+		return g->base;
+	return is_packed(g) ? place << 16 | place : place;
 }
 
 static bool send_answer(struct guest *g)

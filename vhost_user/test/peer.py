@@ -1,19 +1,18 @@
 # SPDX-License-Identifier: Apache-2.0
 """A vhost-user front end, and the driver of a guest behind it, for the tests of vhost-user-rpmb.
 
-The driver is that of `rpmbd run`: its areas stand where docs/FORMATS.md says ("The driver's layout"). Its memory lies in
-two regions, each a file of its own, at user addresses that have nothing to do with the guest's.
+The driver is that of `rpmbd run`: its areas stand where docs/FORMATS.md says ("The driver's layout").
 """
 import array
 import atexit
-import ctypes
-import mmap
 import os
 import select
 import socket
 import struct
 import subprocess
 import time
+
+from memory import Memory
 
 (GET_FEATURES, SET_FEATURES, SET_OWNER, RESET_OWNER, SET_MEM_TABLE) = (1, 2, 3, 4, 5)
 (SET_VRING_NUM, SET_VRING_ADDR, SET_VRING_BASE, GET_VRING_BASE) = (8, 9, 10, 11)
@@ -25,7 +24,6 @@ VERSION_1, PACKED, IN_ORDER = 1 << 32, 1 << 34, 1 << 35
 NEXT, WRITE, INDIRECT, AVAIL, USED = 1, 2, 4, 128, 32768
 READABLE, WRITABLE = 8704, 8192
 PAIR = READABLE + WRITABLE
-FAR = 5 << 32
 SECONDS = 20
 
 
@@ -93,63 +91,6 @@ def state(number, index=0):
     return struct.pack("<II", index, number)
 
 
-class Region:
-    """A part of guest memory: a file whose first bytes are none of it."""
-
-    def __init__(self, guest, size, user, offset):
-        self.guest, self.size, self.user, self.offset = guest, size, user, offset
-        self.file = os.memfd_create("guest")
-        os.ftruncate(self.file, size + offset)
-        self.map = mmap.mmap(self.file, size + offset)
-
-    def words(self):
-        return struct.pack("<QQQQ", self.guest, self.size, self.user, self.offset)
-
-
-class Memory:
-    """Of a guest's `size` bytes the first `cut` lie in one region, and the others behind or far above it."""
-
-    def __init__(self, size, cut, is_far=False):
-        self.size, self.cut, self.gap = size, cut, FAR if is_far else 0
-        self.regions = [Region(0, cut, 0x7F5500000000, 0x3000), Region(cut + self.gap, size - cut, 0x7F1100400000, 0)]
-
-    def address(self, at):
-        """That by which the device finds a byte."""
-        return at if at < self.cut else at + self.gap
-
-    def user(self, at):
-        it = self.regions[at >= self.cut]
-        return it.user + self.address(at) - it.guest
-
-    def pieces(self, at, count):
-        while count:
-            it = self.regions[at >= self.cut]
-            start = it.offset + self.address(at) - it.guest
-            part = min(count, it.size + it.offset - start)
-            assert part > 0, "it lies in the guest's memory"
-            yield it.map, start, part
-            at, count = at + part, count - part
-
-    def put(self, at, content):
-        for where, start, part in self.pieces(at, len(content)):
-            if part in (2, 4, 8):  # (a slice is copied in any pieces, and an index has to be seen whole)
-                kind = {2: ctypes.c_uint16, 4: ctypes.c_uint32, 8: ctypes.c_uint64}[part]
-                kind.from_buffer(where, start).value = int.from_bytes(content[:part], "little")
-            else:
-                where[start:start + part] = content[:part]
-            content = content[part:]
-
-    def get(self, at, count):
-        return b"".join(where[start:start + part] for where, start, part in self.pieces(at, count))
-
-    def number(self, at, count):
-        return int.from_bytes(self.get(at, count), "little")
-
-    def close(self):
-        for it in self.regions:
-            os.close(it.file)
-
-
 def aligned(at):
     return (at + 15) // 16 * 16
 
@@ -167,9 +108,7 @@ class Driver:
         # (a cut is a place of the rings and tables, or of all memory: no field crosses it)
         self.memory = Memory(self.memory_size, self.buffers if is_far or cut is None else self.place_of(cut), is_far)
         self.kick, self.call, self.error = (os.eventfd(0, os.EFD_NONBLOCK) for _ in range(3))
-        self.requests, theirs = socket.socketpair()
-        self.link = Socket(path)
-        self.negotiate(theirs)
+        self.negotiate(path)
         self.set_up()
 
     def lay_out(self):
@@ -187,8 +126,9 @@ class Driver:
         flags = (self.is_packed, PACKED), (self.has_tables, INDIRECT_DESC), (self.has_events, EVENT_IDX)
         return VERSION_1 | sum(bit for has, bit in (*flags, (self.in_order, IN_ORDER)) if has)
 
-    def negotiate(self, theirs):
-        link = self.link
+    def negotiate(self, path):
+        link = self.link = Socket(path)
+        self.requests, theirs = socket.socketpair()
         link.must(SET_OWNER)
         offered = link.number(GET_FEATURES)
         protocol = link.number(GET_PROTOCOL)
@@ -210,12 +150,24 @@ class Driver:
                 link.must(ADD_MEM_REG, bytes(8) + it.words(), [it.file])
 
     def set_up(self, base=0):
-        """The queue begins, in areas that are zeros."""
-        self.offered = self.used = self.next = 0
+        """The queue begins, in areas that are zeros; a split one as if so many chains were used before."""
+        self.offered = self.used = 0 if self.is_packed else base
+        self.next = 0
         self.owner, self.flights, self.stuck = [None] * self.size, {}, None
         for at, end in ((0, self.driver_area), (self.driver_area, self.device_area), (self.device_area, self.tables)):
             self.memory.put(at, bytes(end - at))
+        for at in () if self.is_packed else (self.driver_area + 2, self.device_area + 2):
+            self.memory.put(at, struct.pack("<H", base))
         self.wish()
+        self.start(0x80008000 if self.is_packed and not base else base)
+        self.hear()
+
+    def hear(self):
+        """A back end that takes a queue calls for nothing: another one may have had it before."""
+        if self.waits and select.select([self.call], [], [], 2)[0]:
+            os.eventfd_read(self.call)
+
+    def start(self, base):
         link, user = self.link, self.memory.user
         link.must(SET_VRING_NUM, state(self.size))
         link.must(SET_VRING_BASE, state(base))
@@ -226,9 +178,25 @@ class Driver:
         link.must(SET_VRING_KICK, u64(0), [self.kick])
         link.must(SET_VRING_ENABLE, state(1))
 
-    def reset(self):
+    def reset(self, base=0):
         self.link.must(RESET_DEVICE)
-        self.set_up()
+        self.set_up(base)
+
+    def base(self):
+        """Where the ring stands, behind all that is used, as SET_VRING_BASE says it."""
+        if not self.is_packed:
+            return self.memory.number(self.device_area + 2, 2)
+        at = self.used
+        while self.is_used(at):
+            at = (at + self.flights[self.memory.number(self.slot(at)[0] + 12, 2)][1]) % (2 * self.size)
+        return (at % self.size | (1 - at // self.size) << 15) * 0x10001
+
+    def reconnect(self, path):
+        """Another back end goes on with the ring as it stands. Gone or OSError: none is there."""
+        self.link.socket.close()
+        self.requests.close()
+        self.negotiate(path)
+        self.start(self.base())
 
     def wish(self):
         """With EVENT_IDX: an interrupt is wanted at the next used place."""
@@ -298,11 +266,12 @@ class Driver:
 
     # how it takes one back
 
-    def is_used(self):
+    def is_used(self, at=None):
+        at = self.used if at is None else at
         if self.is_packed:
-            flags = self.memory.number(self.slot(self.used)[0] + 14, 2) & (AVAIL | USED)
-            return flags == (AVAIL | USED if self.used < self.size else 0)
-        return self.memory.number(self.device_area + 2, 2) != self.used
+            flags = self.memory.number(self.slot(at)[0] + 14, 2) & (AVAIL | USED)
+            return flags == (AVAIL | USED if at < self.size else 0)
+        return self.memory.number(self.device_area + 2, 2) != at
 
     def has_stopped(self):
         return self.link.number(GET_STATUS) & 64
@@ -321,6 +290,8 @@ class Driver:
             base, = struct.unpack("<4xI", self.link.ask(GET_VRING_BASE, state(0)))
             self.link.must(SET_VRING_BASE, state(base))
             self.link.must(SET_VRING_KICK, u64(0), [self.kick])
+            if base in (0, 0x80008000):
+                self.hear()
         elif self.waits:
             assert select.select([self.call], [], [], SECONDS)[0] and os.eventfd_read(self.call), "no call came"
         return False

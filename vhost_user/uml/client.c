@@ -1,15 +1,19 @@
 /* SPDX-License-Identifier: Apache-2.0
  *
- * client DEVICE key|counter|bench N [BLOCKS]|single N|null N|crash LEAST N: the RPMB client of a guest, by mmc's ioctls:
- * MMC_IOC_MULTI_CMD, or with `single` one MMC_IOC_CMD after another.
+ * client DEVICE key|counter|bench N [BLOCKS]|single N|null N|crash LEAST N|loop FILE [anew]: the RPMB client of a
+ * guest, by mmc's ioctls: MMC_IOC_MULTI_CMD, or with `single` one MMC_IOC_CMD after another.
  *
  * bench, single: how long the ioctls of a request take, without the client's own MACs; null: the same of counter requests
  * whose answer isn't looked at, for a back end that gives none.
  *
  * crash: checks the counter and the blocks of the last write, and goes on writing three blocks that hold the counter
- * until it is killed or N writes are made. It tells each that it knows of on a line of standard output. */
+ * until it is killed or N writes are made. It tells each that it knows of on a line of standard output.
+ *
+ * loop: programs the key, and asks, writes and reads until FILE is there; with `anew` a write may say COUNT_FAILURE,
+ * where the counter says that it was done: a back end that was killed over it takes it anew. */
 #include <fcntl.h>
 #include <linux/mmc/ioctl.h>
+#include <stdbool.h>
 #include <stdio.h>
 #include <stdlib.h>
 #include <string.h>
@@ -20,11 +24,13 @@
 #include "../../embedding/kvm/sha256.h"
 
 enum { FRAME = 512, BODY = 228, BODY_BYTES = 284, MOST_BLOCKS = 16, FIRST = 8 };
-enum { KEY = 1, COUNTER = 2, DATA_WRITE = 3, DATA_READ = 4, RESULT = 5, SAMPLES = 4096 };
+enum { KEY = 1, COUNTER = 2, DATA_WRITE = 3, DATA_READ = 4, RESULT = 5, COUNT_FAILURE = 3, SAMPLES = 4096 };
 
 static const uint8_t key[32] = "AAAABBBBCCCCDDDDEEEEFFFFGGGGHHHH";
 static int device, single, blocks = 3;
-static double took; /* by the ioctls of the last request, us */
+static double took, longest; /* by the ioctls of the last request, and the most of any, us */
+static bool may_be_anew;
+static int anew, requests;
 
 static void stop(const char *what, long value)
 {
@@ -84,22 +90,27 @@ static void exchange(uint8_t *request, int frames, int with_result, uint8_t *rep
 	if (!single && ioctl(device, MMC_IOC_MULTI_CMD, &all))
 		stop("ioctl", get(request, 510, 2));
 	took = now() - took;
+	longest = took > longest ? took : longest;
+	requests++;
 }
 
-static void check(const uint8_t *reply, int frames, uint32_t type, const uint8_t *nonce)
+/* The result: 0, or that of a write that was made anew. */
+static uint32_t check(const uint8_t *reply, int frames, uint32_t type, const uint8_t *nonce)
 {
 	const uint8_t *last = reply + FRAME * (frames - 1);
+	const uint32_t result = get(last, 508, 2);
 	uint8_t mac[32];
 
 	if (get(last, 510, 2) != type)
 		stop("response", get(last, 510, 2));
-	if (get(last, 508, 2))
-		stop("result", get(last, 508, 2));
+	if (result && !(may_be_anew && type == 0x300 && result == COUNT_FAILURE))
+		stop("result", result);
 	hmac256(key, reply + BODY, BODY_BYTES, frames, mac);
 	if (memcmp(mac, last + 196, 32))
 		stop("mac", type);
 	if (nonce && memcmp(nonce, last + 484, 16))
 		stop("nonce", type);
+	return result;
 }
 
 static uint32_t read_counter(void)
@@ -130,9 +141,11 @@ static void write_blocks(uint32_t counter)
 	}
 	hmac256(key, request + BODY, BODY_BYTES, blocks, request + FRAME * (blocks - 1) + 196);
 	exchange(request, blocks, 1, reply, 1);
-	check(reply, 1, 0x300, NULL);
-	if (get(reply, 500, 4) != counter + 1)
-		stop("counter of a write", get(reply, 500, 4));
+	const bool was_done = check(reply, 1, 0x300, NULL);
+	const uint32_t is = was_done ? read_counter() : get(reply, 500, 4);
+	if (is != counter + 1)
+		stop("counter of a write", is);
+	anew += was_done;
 }
 
 static void read_blocks(uint32_t counter)
@@ -236,6 +249,21 @@ static void crash(uint32_t least, int writes)
 	printf("end\n");
 }
 
+static void loop(const char *until)
+{
+	program_key();
+	for (uint32_t counter = 0; access(until, F_OK); counter++) {
+		if (read_counter() != counter)
+			stop("counter", counter);
+		blocks = 1 + counter % MOST_BLOCKS;
+		write_blocks(counter);
+		read_blocks(counter + 1);
+		if (!counter)
+			printf("begun\n");
+	}
+	printf("end: %d requests, the longest %.0f ms, %d writes taken anew\n", requests, longest / 1e3, anew);
+}
+
 int main(int argc, char **argv)
 {
 	int n = 0;
@@ -254,7 +282,10 @@ int main(int argc, char **argv)
 		program_key();
 	else if (!strcmp(argv[2], "counter"))
 		printf("counter %u\n", read_counter());
-	else if (argc > 3 && (n = atoi(argv[3]), n < 1 || n > SAMPLES) && strcmp(argv[2], "crash"))
+	else if (!strcmp(argv[2], "loop") && argc > 3) {
+		may_be_anew = argc > 4;
+		loop(argv[3]);
+	} else if (argc > 3 && (n = atoi(argv[3]), n < 1 || n > SAMPLES) && strcmp(argv[2], "crash"))
 		stop("N", n);
 	else if (!strcmp(argv[2], "null") && argc > 3)
 		null(n);
