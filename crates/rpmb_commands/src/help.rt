@@ -93,7 +93,9 @@ Prints `ok: N guests, image \"PATH\"`, with the version of the image where it is
 `in memory` in its place, and `guest G: capacity C (K KiB)` for each guest; behind that a\n\
 line where the script may have been cut. `ok` says that `rpmbd run` reads the board file,\n\
 and the script for it where one is named, that no line stores beyond its guest's memory,\n\
-and that the image isn't there, or begins as one of this board. `rpmbd serve` also refuses a `store` line, and `rpmbd format`, `show` and\n\
+and that the image isn't there, or begins as one of this board.\n\
+\n\
+`rpmbd serve` also refuses a `store` line, and `rpmbd format`, `show` and\n\
 `upgrade` a board without the key image.\n\
 \n\
 Status: 0 for ok; 1 where a file isn't read or the image is none of this board, with a line\n\
