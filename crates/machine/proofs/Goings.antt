@@ -12,7 +12,8 @@ use Rattle.mmio_transport.specs.Queue.{QueueState}
 use Rattle.board.specs.Asking.{ForPop}
 use Rattle.board.specs.State.{HasNoJob, waiting}
 use Rattle.machine.proofs.Common.{slice_get, AskingState, Boards, MachineFault, Range, Runs}
-use Rattle.machine.specs.Ending.{AsksIn, FindsNone, HasReason, HasSeenAll, NeedsNext, RestsAt}
+use Rattle.machine.specs.Ending.{AsksIn, FindsNone, HasReason, HasSeenAll, IsHandedOn}
+use Rattle.machine.specs.Ending.{NeedsNext, RestsAt}
 use Rattle.machine.specs.Ending.{SawAll, Went, is_write, left_by}
 use Rattle.machine.specs.Serving.{HasNoReply, SameDevices}
 use Rattle.machine.specs.Turn.{TurnState, stand_of}
@@ -112,20 +113,23 @@ module _ (guest most : ℕ) where
       → is_write (next_call a.rest.store.broken a.rest.store.guests) ≡ false
       → (t ≡ taken.Nothing → FindsNone guest a)
       → ((t ≡ taken.Nothing) ⊎ (t ≡ taken.Limit) → HasNoJob guest a.rest)
-      → HasNoReply guest a.rest → HasSeenAll guest b → RestsAt guest most b
-  rests_by a b t rest same (inl nothing) writes found jobs replies seen =
+      → IsHandedOn guest a.rest → HasNoReply guest a.rest → HasSeenAll guest b
+      → RestsAt guest most b
+  rests_by a b t rest same (inl nothing) writes found jobs handed replies seen =
       subst (λ r. RestsAt guest most (record b { rest = r })) (sym rest) (record {
         jobs = jobs (inl nothing);
         taken = inl (let f = finds_same a b same (found nothing) in
             record { device = f.device; its = f.its; before = f.before; none = f.none });
+        handed = handed;
         replies = replies;
         seen = seen;
         writes = writes;
       })
-  rests_by a b t rest same (inr full) writes found jobs replies seen =
+  rests_by a b t rest same (inr full) writes found jobs handed replies seen =
       subst (λ r. RestsAt guest most (record b { rest = r })) (sym rest) (record {
         jobs = jobs (inr full.0);
         taken = inr full.1;
+        handed = handed;
         replies = replies;
         seen = seen;
         writes = writes;

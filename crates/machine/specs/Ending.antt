@@ -2,10 +2,12 @@
 use Rattle.std.specs.Prelude.{◌≡◌, ◌⊎◌, ◌≤◌, ℕ, Bool, true, false, nat_lt, List, [], ◌∷◌, length, Option, Some}
 use Rattle.std.specs.Prelude.{None, Ok, Err, IfSome, map, nat_le, slice_get, slice_set, take, ◌<◌}
 use Rattle.chains.specs.declared.range.Range.{Range}
-use Rattle.flusher.specs.Store.{next_call}
+use Rattle.flusher.specs.Store.{is_free, next_call}
 use Rattle.flusher.specs.declared.progress.Call.{Call}
 use Rattle.flusher.specs.declared.progress.Call.TheVariants as call
 use Rattle.guest_memory.specs.Memory.{IsAsk, IsInside, bytes_at}
+use Rattle.intent_slots.specs.Payload.{Intent}
+use Rattle.rpmb_book.specs.Book.{next_intent}
 use Rattle.guest_memory.specs.declared.ask.Ask.{Ask}
 use Rattle.mmio_transport.specs.Asking.{AskingState, after_told, known}
 use Rattle.mmio_transport.specs.Device.{DeviceState}
@@ -13,7 +15,7 @@ use Rattle.mmio_transport.specs.Popping.{GivesJob}
 use Rattle.mmio_transport.specs.declared.fault.DeviceFault.TheVariants as device_fault
 use Rattle.rpmb_book.specs.declared.refused.Refused.TheVariants as refused
 use Rattle.board.specs.Asking.{ForPop, ForReply}
-use Rattle.board.specs.State.{HasNoJob, in_place, waiting}
+use Rattle.board.specs.State.{BoardState, HasNoJob, in_place, waiting}
 use Rattle.board.specs.declared.step.Step.{Step}
 use Rattle.board.specs.declared.step.Step.TheVariants as step
 use Rattle.board.specs.declared.step.StepFault.{StepFault}
@@ -58,12 +60,23 @@ is_write call.Write = true
 is_write call.Sync = false
 is_write call.None = false
 
+-- All of a guest that was accepted is with the store, as far as its slots are free: an intent that
+-- was taken waits for one, and where none was taken the book has none to give. And the book has
+-- heard of the disk's last call.
+pub record IsHandedOn {D : Type 0} (guest : ℕ) (b : BoardState D) : Type 0 where
+  pub heard : b.report ≡ None
+  pub place : (i : Intent) → in_place (slice_get b.intents guest) ≡ Some i
+      → is_free b.store.guests guest ≡ false
+  pub due : slice_get b.intents guest ≡ Some None → next_intent b.book b.shares guest ≡ None
+
 -- A guest rests: no chain of it lies without its answer, and none is available, or as many wait for
--- their answers as may; no reply of it may leave, and whether its driver is to be notified was seen
--- behind all that left; and no write of the disk comes before a sync.
+-- their answers as may; what was accepted of it is handed on; no reply of it may leave, and whether
+-- its driver is to be notified was seen behind all that left; and no write of the disk comes before
+-- a sync.
 pub record RestsAt (guest most : ℕ) (b : Boards) : Type 0 where
   pub jobs : HasNoJob guest b.rest
   pub taken : FindsNone guest b ⊎ (nat_lt (waiting guest b.rest) most ≡ false)
+  pub handed : IsHandedOn guest b.rest
   pub replies : HasNoReply guest b.rest
   pub seen : HasSeenAll guest b
   pub writes : is_write (next_call b.rest.store.broken b.rest.store.guests) ≡ false

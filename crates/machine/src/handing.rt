@@ -1,6 +1,8 @@
 //! Handing what was accepted to the store, and its writes to the disk.
-ghost use Rattle.std.specs.Prelude.{◌≡◌, ℕ, List};
+ghost use Rattle.std.specs.Prelude.{◌≡◌, ℕ, List, false};
 ghost use Rattle.chains.specs.declared.range.Range.{Range as Part};
+ghost use Rattle.board.specs.Asking.{board_of};
+ghost use Rattle.machine.specs.Ending.{IsHandedOn};
 ghost use Rattle.machine.specs.Serving.{Hears, Runs};
 ghost use Rattle.machine.specs.Turn.{Stand};
 
@@ -12,16 +14,29 @@ use intent_slots::PAYLOAD_LENGTH;
 /// How many records of one guest a store takes before one of them is settled, and one more.
 const MOST_RECORDS: u32 = 3;
 
-/// Hands what was accepted of the guest to the store, up to four requests a record, while it takes
-/// more.
+/// Tells the book of the disk's last call, and hands the next of what was accepted of the guest to
+/// the store, up to four requests a record. Whether there was something to do.
+pub(crate) fn hand_on(board: &mut AskingBoard<OutboxDisk>, guest: u16) -> bool
+    ensures runs { (s : Stand) → Runs guest s board.old s board.new }
+    ensures jobs { board.new.rest.jobs ≡ board.old.rest.jobs }
+    ensures devices { board.new.devices ≡ board.old.devices }
+    ensures done { result ≡ false
+        → (board_of board.new ≡ board_of board.old) × IsHandedOn guest board.new.rest }
+{
+    let told = board.settle();
+    let taken = board.take(guest);
+    let given = board.give(guest);
+    told | taken | given
+}
+
+/// Hands what was accepted of the guest to the store, while it takes more.
 pub(crate) fn hand_in(board: &mut AskingBoard<OutboxDisk>, guest: u16)
     ensures runs { (s : Stand) → Runs guest s board.old s board.new }
     ensures jobs { board.new.rest.jobs ≡ board.old.rest.jobs }
     ensures devices { board.new.devices ≡ board.old.devices }
 {
     for _record in 0..MOST_RECORDS {
-        board.take(guest);
-        if !board.give(guest) {
+        if !hand_on(board, guest) {
             return;
         }
     }

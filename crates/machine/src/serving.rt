@@ -5,7 +5,8 @@ ghost use Rattle.chains.specs.declared.range.Range.{Range as Part};
 ghost use Rattle.guest_memory.specs.declared.ask.Ask.{Ask};
 ghost use Rattle.flusher.specs.Store.{next_call};
 ghost use Rattle.board.specs.State.{HasNoJob, waiting};
-ghost use Rattle.machine.specs.Ending.{AsksIn, FindsNone, HasReason, HasSeenAll, RestsAt, Went};
+ghost use Rattle.machine.specs.Ending.{AsksIn, FindsNone, HasReason, HasSeenAll, IsHandedOn};
+ghost use Rattle.machine.specs.Ending.{RestsAt, Went};
 ghost use Rattle.machine.specs.Ending.{is_write, left_by};
 ghost use Rattle.machine.specs.Serving.{HasNoReply, Runs, SameDevices, standing};
 ghost use Rattle.machine.specs.Turn.{KeepsStage};
@@ -13,7 +14,7 @@ ghost use Rattle.machine.specs.declared.fault.MachineFault.{MachineFault};
 ghost use Rattle.machine.specs.declared.taking.Taken.TheVariants as taken_as;
 
 use crate::fault::MachineFault;
-use crate::handing::{hand_in, write_out};
+use crate::handing::{hand_in, hand_on, write_out};
 use crate::leaving::{Left, leave_one};
 use crate::taking::{Taken, begin, take_one};
 use crate::turn::{Stage, Turn};
@@ -116,8 +117,36 @@ fn why_rests(
     }
 }
 
-/// No more is taken, no reply may leave, and the driver knows of all that left.
+/// No more is taken or handed on, no reply may leave, and the driver knows of all that left.
 fn rest(
+    board: &mut AskingBoard<OutboxDisk>,
+    guest: u16,
+    most: u16,
+    turn: &mut Turn,
+    taken: Taken,
+) -> Next
+    requires guest { guest < length board.old.devices }
+    requires none { taken ≡ Taken.Nothing → FindsNone guest board.old }
+    requires limit { (taken ≡ Taken.Nothing) ⊎ (taken ≡ Taken.Limit)
+        → HasNoJob guest board.old.rest }
+    requires left { IsHandedOn guest board.old.rest × HasNoReply guest board.old.rest
+        × HasSeenAll guest board.old }
+    requires parts { turn.old.parts ≡ [] }
+    requires fault { (f : MachineFault) → taken ≡ Taken.Refused f → HasReason guest f }
+    ensures went { Went guest most turn.old turn.new board.old board.new (Some result) }
+{
+    match why_rests(board, guest, most, taken) {
+        None => Next::Again,
+        Some(fault) => {
+            begin(board, guest, turn);
+            turn.take_next();
+            Next::Rest(fault)
+        }
+    }
+}
+
+/// No reply may leave. Where more can be handed on the guest is to be served again, else it rests.
+fn end(
     board: &mut AskingBoard<OutboxDisk>,
     guest: u16,
     most: u16,
@@ -132,16 +161,11 @@ fn rest(
     requires parts { turn.old.parts ≡ [] }
     requires fault { (f : MachineFault) → taken ≡ Taken.Refused f → HasReason guest f }
     ensures went { Went guest most turn.old turn.new board.old board.new (Some result) }
-    ensures parts { turn.new.parts ≡ turn.old.parts }
 {
-    match why_rests(board, guest, most, taken) {
-        None => Next::Again,
-        Some(fault) => {
-            begin(board, guest, turn);
-            turn.take_next();
-            Next::Rest(fault)
-        }
+    if hand_on(board, guest) {
+        return Next::Again;
     }
+    rest(board, guest, most, turn, taken)
 }
 
 /// Hands on what was accepted, and lets a reply leave; where there is none the guest rests.
@@ -177,7 +201,7 @@ fn settle_down(
         }
         Left::Nothing => match notify(board, guest, turn) {
             Some(next) => Some(next),
-            None => Some(rest(board, guest, most, turn, taken)),
+            None => Some(end(board, guest, most, turn, taken)),
         },
     }
 }

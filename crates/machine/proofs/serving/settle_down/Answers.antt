@@ -120,11 +120,11 @@ returns-in-None c =
     let notified = subst (λ ps. Runs g (standing ps left.going) d
     (left_by c.notify.result c.notify.new.turn) e) (sym none) n.runs in
     record {
-      went = went_after g c.args.most c.args.turn.now c.notify.new.turn c.rest.new.turn a e
-          c.rest.new.board _
+      went = went_after g c.args.most c.args.turn.now c.notify.new.turn c.end.new.turn a e
+          c.end.new.board _
           (subst (λ o. Runs g (stand_of c.args.turn.now) a (left_by o c.notify.new.turn) e)
           c.in-None.is
           (runs_twice g (stand_of c.args.turn.now) (stand_of left)
           (left_by c.notify.result c.notify.new.turn) a d e runs notified))
-          (n.count ∙ count) (n.asked ∙ c.leave_one.ensures.keeps.1) c.rest.ensures.went;
+          (n.count ∙ count) (n.asked ∙ c.leave_one.ensures.keeps.1) c.end.ensures.went;
     }
