@@ -14,20 +14,15 @@ use Rattle.flusher.specs.Store.{AllFit, Gives, MayGive, StoreState}
 use Rattle.rpmb_book.specs.Book.{BookView, guest_of, take_answer}
 use Rattle.rpmb_book.specs.Guest.{GuestState}
 use Rattle.board.specs.State.{KeeperState, in_place}
+use Rattle.workers.specs.declared.flushing.Flusher.{Flusher}
 
 -- a store, and each guest's key after all that it was given
 pub record KeyedStore (D : Type 0) : Type 0 where
   pub store : StoreState D
   pub keys : List (Option (List ℕ))
 
--- what a contract sees of a flusher: the keeper, the keys, and whether it saw a call fail
-pub record FlusherState (D : Type 0) : Type 0 where
-  pub keeper : KeeperState D
-  pub keys : List (Option (List ℕ))
-  pub broken : Bool
-
-abbrev pub keyed : {D : Type 0} → FlusherState D → KeyedStore D
-keyed f = record { store = f.keeper.store; keys = f.keys }
+abbrev pub keyed : {D : Type 0} → Flusher D → KeyedStore D
+keyed f = record { store = f.keeper.store; keys = f.keys.items }
 
 -- 1. Intents one after another
 
@@ -166,15 +161,15 @@ pub record GivesNext {D : Type 0} (guest : ℕ) (old new : KeeperState D) : Type
 
 -- whatever store it began with
 abbrev pub KeepsOn : {D : Type 0} → (D → DiskState) → (D → DiskCall → D → Type 0)
-    → FlusherState D → FlusherState D → Type 0
+    → Flusher D → Flusher D → Type 0
 KeepsOn shows makes old new =
     (first : KeyedStore _) → Keeps shows makes first (keyed old) → Keeps shows makes first (keyed new)
 
 -- a flag that said whether the store had broken says so still
-abbrev pub IsHeard : {D : Type 0} → FlusherState D → FlusherState D → Type 0
+abbrev pub IsHeard : {D : Type 0} → Flusher D → Flusher D → Type 0
 IsHeard old new = old.keeper.store.broken ≡ old.broken → new.keeper.store.broken ≡ new.broken
 
 -- what a flusher leaves: the store keeps what it kept, and the flag says whether it broke
 abbrev pub LeftBy : {D : Type 0} → (D → DiskState) → (D → DiskCall → D → Type 0)
-    → FlusherState D → FlusherState D → Type 0
+    → Flusher D → Flusher D → Type 0
 LeftBy shows makes old new = KeepsOn shows makes old new × IsHeard old new

@@ -4,6 +4,7 @@ use Rattle.board.specs.declared.board.Parts.{Parts}
 use Rattle.disk.specs.declared.disk.Disk.{Ghosts}
 use Rattle.rpmb_book.specs.Book.{counted_in, state}
 use Rattle.workers.specs.Following.{Follow}
+use Rattle.workers.specs.Crew.{guests_of}
 use Rattle.workers.specs.Ends.{HaveAll, Left}
 use Rattle.workers.specs.declared.crew.Crew.{Crew}
 use Rattle.workers.specs.declared.order.Order.{Order}
@@ -15,10 +16,12 @@ pub record AreNew {D : Type 0} (parts : Parts D) : Type 0 where
   pub tallies : All (λ t. t.count ≡ 0) parts.tallies.items
   pub follows : Follow parts.shares parts.store.guests
 
--- the threads that came to their end are one worker and one driver for each script
-pub record AreJoined {L D : Type 0} {disk : Ghosts D} (crew : Crew L D disk)
-    (scripts : List (List Order)) : Type 0 where
-  pub workers : vec_len crew.workers ≡ length scripts
+-- The threads that came to their end are a worker for each guest of these numbers, one after another,
+-- and a driver for each script.
+pub record AreJoined {L D : Type 0} {disk : Ghosts D} (numbers : List ℕ)
+    (scripts : List (List Order)) (crew : Crew L D disk) : Type 0 where
+  pub workers : vec_len crew.workers ≡ length numbers
+  pub guests : guests_of crew.workers.items ≡ numbers
   pub drivers : vec_len crew.drivers ≡ length scripts
   pub left : Left crew.drivers.items scripts
 

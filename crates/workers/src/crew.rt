@@ -4,7 +4,8 @@ ghost use Rattle.std.specs.Prelude.{map};
 ghost use Rattle.workers.specs.Crew.{guests_of};
 ghost use Rattle.workers.specs.Following.{Follows};
 ghost use Rattle.workers.specs.Keeping.{LeftBy};
-ghost use Rattle.workers.specs.Ends.{LeavesAll, Left};
+ghost use Rattle.workers.specs.Ends.{LeavesAll};
+ghost use Rattle.workers.specs.Run.{AreJoined};
 
 use crate::bell::{Actor, Bell};
 use crate::desk::Desk;
@@ -185,8 +186,7 @@ fn start_workers<'s, E, L: Ledger + Send + Sync, G: Gate + Sync, R: Wait + Sync>
     gate: &'s G,
     workers: Vec<Worker<L>>,
 ) -> Result<Vec<PromisedHandle<Worker<L>, OfGuest>>, HostFault>
-    ensures len { IfOk result (λ v. vec_len v ≡ vec_len workers) }
-    ensures guests { IfOk result (λ v. map (λ h. h.promise.0) v.items ≡ guests_of workers.items) }
+    ensures { IfOk result (λ v. map (λ h. h.promise.0) v.items ≡ guests_of workers.items) }
 {
     let mut started = Vec::new(alloc);
     for worker in workers {
@@ -247,7 +247,6 @@ fn start_all<
     flusher: Flusher<D>,
 ) -> Result<Started<L, D>, HostFault>
     requires { Follows flusher.keeper }
-    ensures workers { IfOk result (λ s. vec_len s.workers ≡ vec_len workers) }
     ensures guests { IfOk result (λ s. map (λ h. h.promise.0) s.workers.items
         ≡ guests_of workers.items) }
     ensures drivers { IfOk result (λ s. vec_len s.drivers ≡ length scripts.now) }
@@ -278,11 +277,8 @@ fn join_all<L: Ledger, D: Disk + Drop, R: Threads>(
         → ((slice_index_or started.drivers.items i d).promise.0 ≡ i)
         × (slice_index_or scripts.now i []
         ≡ (slice_index_or started.drivers.items i d).promise.1.value) }
-    ensures workers { IfOk result (λ c. vec_len c.workers ≡ vec_len started.workers) }
-    ensures guests { IfOk result (λ c. guests_of c.workers.items
-        ≡ map (λ h. h.promise.0) started.workers.items) }
-    ensures drivers { IfOk result (λ c. vec_len c.drivers ≡ length scripts.now) }
-    ensures each { IfOk result (λ c. Left c.drivers.items scripts.now) }
+    ensures joined { IfOk result
+        (AreJoined (map (λ h. h.promise.0) started.workers.items) scripts.now) }
     ensures flusher { IfOk result (λ c. LeftBy D.state D.makes
         started.flusher.promise.0.value c.flusher.flusher) }
 {
@@ -324,13 +320,8 @@ fn run_in<
     flusher: Flusher<D>,
 ) -> Result<Crew<L, D>, HostFault>
     requires { Follows flusher.keeper }
-    ensures workers { IfOk result (λ c. vec_len c.workers ≡ vec_len workers) }
-    ensures guests { IfOk result (λ c. guests_of c.workers.items
-        ≡ guests_of workers.items) }
-    ensures drivers { IfOk result (λ c. vec_len c.drivers ≡ length scripts.now) }
-    ensures each { IfOk result (λ c. Left c.drivers.items scripts.now) }
-    ensures flusher { IfOk result (λ c. LeftBy D.state D.makes
-        flusher c.flusher.flusher) }
+    ensures joined { IfOk result (AreJoined (guests_of workers.items) scripts.now) }
+    ensures flusher { IfOk result (λ c. LeftBy D.state D.makes flusher c.flusher.flusher) }
 {
     match start_all(scope, rt, alloc, hall, gate, workers, scripts, flusher) {
         Ok(started) => join_all(rt, started, scripts),
@@ -357,26 +348,18 @@ pub(crate) fn run_all<
     flusher: Flusher<D>,
 ) -> Result<Crew<L, D>, HostFault>
     requires { Follows flusher.keeper }
-    ensures workers { IfOk result (λ c. vec_len c.workers ≡ vec_len workers) }
-    ensures guests { IfOk result (λ c. guests_of c.workers.items
-        ≡ guests_of workers.items) }
-    ensures drivers { IfOk result (λ c. vec_len c.drivers ≡ length scripts.now) }
-    ensures each { IfOk result (λ c. Left c.drivers.items scripts.now) }
-    ensures flusher { IfOk result (λ c. LeftBy D.state D.makes
-        flusher c.flusher.flusher) }
+    ensures joined { IfOk result (AreJoined (guests_of workers.items) scripts.now) }
+    ensures flusher { IfOk result (λ c. LeftBy D.state D.makes flusher c.flusher.flusher) }
 {
     thread::scope(
         thread::scope_env(),
         rt,
         |scope| -> Result<Crew<L, D>, HostFault>
             requires { Follows flusher.keeper }
-            ensures workers { IfOk result (λ c. vec_len c.workers ≡ vec_len workers) }
-            ensures guests { IfOk result (λ c. guests_of c.workers.items
-                ≡ guests_of workers.items) }
-            ensures drivers { IfOk result (λ c. vec_len c.drivers ≡ length scripts.entry.now) }
-            ensures each { IfOk result (λ c. Left c.drivers.items scripts.entry.now) }
-            ensures flusher { IfOk result (λ c. LeftBy D.state D.makes
-                flusher c.flusher.flusher) }
+            ensures joined { IfOk result
+                (AreJoined (guests_of workers.items) scripts.entry.now) }
+            ensures flusher { IfOk result
+                (λ c. LeftBy D.state D.makes flusher c.flusher.flusher) }
         { run_in(scope, rt, alloc, hall, gate, workers, scripts, flusher) },
     )
 }

@@ -12,11 +12,9 @@ use crate::known_keys::lets_key;
 use crate::seat::Next;
 use board::Keeper;
 use disk::Disk;
-use flusher::{Call, Store, StoreFault};
+use flusher::{Call, StoreFault};
 use host::HostFault;
 use intent_slots::Intent;
-use rpmb_book::Shares;
-use std::marker::Model;
 use std::sync::ledger::Ledger;
 use std::sync::{Mutex, Wait};
 
@@ -25,19 +23,11 @@ use std::sync::{Mutex, Wait};
 /// compares it only with those in its slots.
 #[derive(Drop)]
 pub(crate) struct Flusher<D: Disk> {
-    keeper: Keeper<D>,
-    keys: Vec<Option<[u8; 32]>>,
-    guests: u16,
+    pub keeper: Keeper<D>,
+    pub keys: Vec<Option<[u8; 32]>>,
+    pub guests: u16,
     /// Whether a call of the disk has failed. The book is told before the next look.
-    broken: bool,
-}
-
-impl<D: Disk> Model for Flusher<D> {
-    ghost use Rattle.workers.specs.Keeping.{FlusherState};
-
-    ghost Value = { FlusherState D };
-
-    ghost view = { λ f. record { keeper = f.keeper; keys = f.keys.items; broken = f.broken } };
+    pub broken: bool,
 }
 
 /// What the flusher leaves.
@@ -55,28 +45,12 @@ pub(crate) struct FlusherEnd<D: Disk> {
 }
 
 impl<D: Disk> Flusher<D> {
-    pub fn new(
-        keeper: Keeper<D>,
-        keys: Vec<Option<[u8; 32]>>,
-        guests: u16,
-        broken: bool,
-    ) -> Flusher<D>
-        ensures { result ≡ record { keeper = keeper; keys = keys.items; broken = broken } }
-    {
-        Flusher {
-            keeper,
-            keys,
-            guests,
-            broken,
-        }
-    }
-
     /// Whether an intent is the guest's, comes next in its free slot, and is under its key.
     fn takes(&self, guest: u16, intent: &Intent) -> bool
         ensures own { IsTrue result → intent.now.guest ≡ guest }
         ensures may { IsTrue result → MayGive self.now.keeper.store.guests intent.now }
-        ensures lets { IsTrue result → LetsKey (slice_get self.now.keys guest) intent.now.group.key }
-        ensures within { IsTrue result → guest < length self.now.keys }
+        ensures lets { IsTrue result → LetsKey (slice_get self.now.keys.items guest) intent.now.group.key }
+        ensures within { IsTrue result → guest < length self.now.keys.items }
     {
         intent.guest() == guest
             && lets_key(&self.keys, guest, intent.key())
@@ -292,13 +266,5 @@ impl<D: Disk> Flusher<D> {
             complete,
             fault,
         }
-    }
-
-    /// What was taken of each guest, the store, and whether a call of the disk has failed.
-    pub(crate) fn into_parts(self) -> (Shares, Store<D>, bool)
-        ensures { result ≡ (self.keeper.shares, self.keeper.store, self.broken) }
-    {
-        let (shares, store) = self.keeper.into_parts();
-        (shares, store, self.broken)
     }
 }

@@ -1,5 +1,5 @@
 use Rattle.std.proofs.Common.{ap, subst, sym, ◌∙◌}
-use Rattle.workers.specs.Keeping.{Keeps, KeyedStore, keyed}
+use Rattle.workers.specs.Keeping.{Keeps, KeyedStore}
 use Rattle.workers.proofs.Keeping.{if_ok_weaker, keeps_begins}
 use Rattle.workers.proofs.serving.serve_as.Goals as goal
 
@@ -11,27 +11,25 @@ returns-clause-keeps g c =
     let end = c.in_ok-crew.crew.flusher.flusher in
     let run = c.in_ok-crew.ensures.flusher in
     let first : KeyedStore _ = record { store = c.args.parts.store; keys = keys } in
-    let begun = subst (λ f. Keeps shows makes first (keyed f)) (sym c.new-flusher.ensures)
-    (subst (λ k. Keeps shows makes first (record { store = k.store; keys = keys }))
-    (sym c.in-Ok.ensures) (keeps_begins shows makes first)) in
+    let begun = subst (λ k. Keeps shows makes first (record { store = k.store; keys = keys }))
+    (sym c.in-Ok.ensures) (keeps_begins shows makes first) in
     if_ok_weaker c.finish.result
     (λ e is. (
       keys,
       c.in_ok-keys.ensures,
       (
-        end.keys,
-        subst (λ s. Keeps shows makes first (record { store = s; keys = end.keys })) (sym is.0)
-            (run.0 first begun),
+        end.keys.items,
+        subst (λ s. Keeps shows makes first (record { store = s; keys = end.keys.items }))
+            (sym is.0) (run.0 first begun),
       ),
     ))
     c.finish.ensures.store
 
 pub returns-clause-heard : goal.returns-clause-heard
 returns-clause-heard g c =
-    let new = c.new-flusher.ensures in
-    let whole = ap (λ f. f.keeper.store.broken) new ∙ ap (λ k. k.store.broken) c.in-Ok.ensures in
-    let told = ap (λ f. f.broken) new ∙ c.is_broken-broken.ensures in
+    let whole = ap (λ k. k.store.broken) c.in-Ok.ensures in
     if_ok_weaker c.finish.result
     (λ e is same. ap (λ s. s.broken) is.0
-    ∙ c.in_ok-crew.ensures.flusher.1 (whole ∙ sym same ∙ sym told) ∙ sym is.1)
+    ∙ c.in_ok-crew.ensures.flusher.1 (whole ∙ sym same ∙ sym c.is_broken-broken.ensures)
+    ∙ sym is.1)
     c.finish.ensures.store

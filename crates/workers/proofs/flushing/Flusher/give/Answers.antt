@@ -1,33 +1,26 @@
 use Rattle.std.proofs.Common.{◌≡◌, ◌∙◌, Some, ap, refl, subst, sym, true}
 use Rattle.std.specs.Prelude.{slice_get, slice_set}
-use Rattle.flusher.specs.Store.{MayGive, is_free}
+use Rattle.flusher.specs.Store.{is_free}
 use Rattle.board.specs.State.{in_place}
-use Rattle.workers.specs.Keeping.{LeftBy, LetsKey}
+use Rattle.workers.specs.Keeping.{LetsKey}
 use Rattle.workers.proofs.KeeperSteps.{gave, no_book}
 use Rattle.workers.proofs.Keeping.{keeps_given}
 use Rattle.workers.proofs.flushing.Flusher.give.Goals as goal
 
 pub returns-clause-left : goal.returns-clause-left
 returns-clause-left g c =
-    let i = c.self.inside in
+    let i = c.args.self.now in
     let e = c.give.ensures in
     let intent = c.in-Some.intent.now in
     let own = c.if-not-takes.ensures.own refl in
-    let may = subst (λ v. MayGive v.keeper.store.guests intent) (sym c.self.view_is)
-    (c.if-not-takes.ensures.may refl) in
-    let lets = subst (λ v. LetsKey (slice_get v.keys c.args.guest) intent.group.key)
-    (sym c.self.view_is) (c.if-not-takes.ensures.lets refl) in
+    let may = c.if-not-takes.ensures.may refl in
+    let lets = c.if-not-takes.ensures.lets refl in
     let lies : in_place (slice_get i.keeper.intents c.args.guest) ≡ Some intent =
     sym c.in-Some.ensures in
     let free = subst (λ n. is_free i.keeper.store.guests n ≡ true) own may.free in
     let did = gave no_book no_book i.keeper c.give.new.self c.args.guest
     (is_free i.keeper.store.guests c.args.guest) (in_place (slice_get i.keeper.intents c.args.guest))
-    intent c.give.result (e.gives no_book) free lies in
-    subst (λ v. LeftBy g.D.Disk.state g.D.Disk.makes v (record {
-      keeper = c.give.new.self;
-      keys = slice_set i.keys.items c.from.result (Some c.key.result.now);
-      broken = i.broken;
-    })) c.self.view_is (
+    intent c.give.result (e.gives no_book) free lies in (
       (λ first keeps. keeps_given g.D.Disk.state g.D.Disk.makes first
           (record { store = i.keeper.store; keys = i.keys.items })
           (record {
