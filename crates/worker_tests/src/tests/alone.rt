@@ -1,146 +1,96 @@
 //! What guests are told that are served at once is what each is told by a host that serves one
 //! chain at a time.
-use crate::tests::scene::{
-    Ran, Step, board_of, check, formatted, formatted_in_memory, run_on, script_of_steps,
-};
+use crate::tests::runs::{Ending, Look, run_openly};
+use crate::tests::scene::{Step, board_of, check, formatted, script_of, scripts_by};
 use board::Board;
 use disk::MemDisk;
 use host::{Answer, Host};
-use rpmb_frame::BoardConfig;
 use std::alloc::Global;
 use std::sync::Wait;
 use std::test::Fail;
 use std::thread::Threads;
-use workers::{DriverEnd, Open, Order, Script};
+use workers::{DriverEnd, Order, Script};
 
-/// A script of a guest of this number: its own key, its counter under several nonces, a reset
-/// between.
-pub fn script_of(alloc: Global, guest: u8) -> Option<Script> {
-    let steps = [
-        Step::Counter(guest),
-        Step::Key,
+/// The replies to a guest's chains, one after another.
+pub type Replies = Vec<Vec<u8>>;
+
+/// A guest of this number: its own key, its counter under several nonces, a reset between.
+pub fn steps_of(guest: u8) -> [Step; 8] {
+    [
+        Step::Counter(u128::from(guest)),
+        Step::Key(guest),
         Step::Counter(1),
         Step::Counter(2),
         Step::Counter(3),
         Step::Reset,
-        Step::Key,
+        Step::Key(guest),
         Step::Counter(9),
-    ];
-    script_of_steps(alloc, &[guest; 32], &steps)
+    ]
 }
 
-fn scripts_of(alloc: Global, guests: u8) -> Option<Vec<Script>> {
-    let mut scripts = Vec::new(alloc);
-    for guest in 0..guests {
-        let Some(script) = script_of(alloc, guest) else {
-            return None;
-        };
+/// A host. The method promises nothing, so that what stands above it is proved without a host's
+/// contracts.
+trait Tells {
+    /// Carries an order out, and appends the reply, where it has one.
+    fn tell(&mut self, guest: u16, order: &Order, replies: &mut Replies) -> bool;
+}
 
-        if scripts.push(script).is_err() {
-            return None;
+impl Tells for Host<MemDisk> {
+    fn tell(&mut self, guest: u16, order: &Order, replies: &mut Replies) -> bool {
+        match order {
+            Order::Reset => self.reset(guest).is_ok(),
+            Order::Chain(chain) => match self.chain(guest, chain.readable(), chain.writable()) {
+                Ok(Answer::Used(reply)) => replies.push(reply).is_ok(),
+                _ => false,
+            },
         }
-    }
-    Some(scripts)
-}
-
-/// A host on this disk.
-fn host_on(alloc: Global, disk: MemDisk, board: &BoardConfig) -> Option<Host<MemDisk>> {
-    match Board::open(alloc, disk, 1, board) {
-        Ok(opened) => match Host::new(alloc, opened, board) {
-            Ok(host) => Some(host),
-            Err(_) => None,
-        },
-        Err(_) => None,
-    }
-}
-
-/// A host on a fresh image of so many guests.
-fn host_of(alloc: Global, guests: usize) -> Option<Host<MemDisk>> {
-    let Some(board) = board_of(alloc, guests) else {
-        return None;
-    };
-    let Some(disk) = formatted_in_memory(alloc, guests) else {
-        return None;
-    };
-    host_on(alloc, disk, &board)
-}
-
-/// The reply of a host to one chain; none to a reset.
-fn reply_alone(host: &mut Host<MemDisk>, guest: u16, order: &Order) -> Option<Option<Vec<u8>>> {
-    let Order::Chain(chain) = order else {
-        if host.reset(guest).is_err() {
-            return None;
-        }
-        return Some(None);
-    };
-    match host.chain(guest, chain.readable(), chain.writable()) {
-        Ok(Answer::Used(reply)) => Some(Some(reply)),
-        _ => None,
     }
 }
 
 /// What the host tells a guest, one chain after another.
-fn replies_alone(
-    alloc: Global,
-    host: &mut Host<MemDisk>,
-    guest: u16,
-    orders: &[Order],
-) -> Option<Vec<Vec<u8>>> {
-    let Ok(mut replies) = Vec::with_capacity(alloc, orders.len()) else {
-        return None;
-    };
+fn told<H: Tells>(alloc: Global, host: &mut H, guest: u16, orders: &[Order]) -> Option<Replies> {
+    let mut replies = Vec::new(alloc);
     for order in orders {
-        let Some(told) = reply_alone(host, guest, order) else {
+        if !host.tell(guest, order, &mut replies) {
             return None;
-        };
-        if let Some(reply) = told {
-            if replies.push(reply).is_err() {
-                return None;
-            }
         }
     }
     Some(replies)
 }
 
-/// Appends what the host tells a guest.
-fn tell(
-    alloc: Global,
-    host: &mut Host<MemDisk>,
-    guest: u16,
-    orders: &[Order],
-    all: &mut Vec<Vec<Vec<u8>>>,
-) -> bool {
-    let Some(replies) = replies_alone(alloc, host, guest, orders) else {
-        return false;
-    };
-    all.push(replies).is_ok()
-}
-
-/// The same for all guests, each in turn.
-fn tell_all(
-    alloc: Global,
-    host: &mut Host<MemDisk>,
-    scripts: &[Script],
-    all: &mut Vec<Vec<Vec<u8>>>,
-) -> bool {
+/// The same of all guests, each in turn.
+fn all_told<H: Tells>(alloc: Global, host: &mut H, scripts: &[Script]) -> Option<Vec<Replies>> {
+    let mut all = Vec::new(alloc);
     for (guest, script) in (0..u16::MAX).zip(scripts.iter()) {
-        if !tell(alloc, host, guest, script.orders(), all) {
-            return false;
+        let Some(replies) = told(alloc, host, guest, script.orders()) else {
+            return None;
+        };
+        if all.push(replies).is_err() {
+            return None;
         }
     }
-    true
+    Some(all)
+}
+
+fn host_of(alloc: Global, guests: usize) -> Option<Host<MemDisk>> {
+    let Some(board) = board_of(alloc, guests) else {
+        return None;
+    };
+    let Some(disk) = formatted(alloc, guests) else {
+        return None;
+    };
+    match Board::open(alloc, disk, 1, &board) {
+        Ok(opened) => Host::new(alloc, opened, &board).ok(),
+        Err(_) => None,
+    }
 }
 
 /// What all guests are told alone, by a host on a fresh image.
-pub fn all_alone(alloc: Global, scripts: &[Script]) -> Option<Vec<Vec<Vec<u8>>>> {
-    let Some(mut host) = host_of(alloc, scripts.len()) else {
-        return None;
-    };
-    let mut all = Vec::new(alloc);
-    if !tell_all(alloc, &mut host, scripts, &mut all) {
-        return None;
+pub fn all_alone(alloc: Global, scripts: &[Script]) -> Option<Vec<Replies>> {
+    match host_of(alloc, scripts.len()) {
+        Some(mut host) => all_told(alloc, &mut host, scripts),
+        None => None,
     }
-    Some(all)
 }
 
 /// Whether these are the replies.
@@ -155,39 +105,36 @@ pub fn are_told(answers: &[Answer], replies: &[Vec<u8>]) -> bool {
 }
 
 /// Whether each guest was told what it is told alone.
-pub fn are_all_told(drivers: &[DriverEnd], alone: &[Vec<Vec<u8>>]) -> bool {
+fn are_all_told(drivers: &[DriverEnd], alone: &[Replies]) -> bool {
     for (driver, replies) in drivers.iter().zip(alone.iter()) {
-        if !are_told(driver.answers.as_slice(), replies.as_slice()) {
+        if !are_told(&driver.answers, replies) {
             return false;
         }
     }
     drivers.len() == alone.len()
 }
 
-/// The guests of a run were told what each is told alone.
-fn check_ran(alloc: Global, ran: &Ran, scripts: &[Script]) -> bool {
-    if !ran.check_end() {
-        return false;
+/// Each guest was told what it is told alone, which is so many replies.
+#[derive(Clone, Copy)]
+pub struct Alone<'a>(pub &'a [Replies], pub u64);
+
+impl<'a> Look for Alone<'a> {
+    fn is_met<E: Ending>(&self, ended: &E) -> bool {
+        !ended.has_broken() && ended.turns() == self.1 && are_all_told(ended.drivers(), self.0)
     }
-    let Some(alone) = all_alone(alloc, scripts) else {
-        return false;
-    };
-    let are_told = are_all_told(&ran.drivers, &alone);
-    are_told
 }
 
 /// So many guests are told at once what each is told alone.
 fn are_told_alike<R: Threads + Wait + Sync>(rt: &R, alloc: Global, guests: u8) -> bool {
-    let Some(scripts) = scripts_of(alloc, guests) else {
+    let made = scripts_by(alloc, guests, |guest| script_of(alloc, &steps_of(guest)));
+    let Some(scripts) = made else {
         return false;
     };
-    let Some(disk) = formatted(alloc, scripts.len()) else {
+    let Some(alone) = all_alone(alloc, &scripts) else {
         return false;
     };
-    let Some(ran) = run_on(rt, alloc, disk, &scripts, &Open) else {
-        return false;
-    };
-    check_ran(alloc, &ran, &scripts)
+    let look = Alone(&alone, 7 * u64::from(guests));
+    run_openly(rt, alloc, &[], &scripts, &look) == Some(Ok(true))
 }
 
 #[test]

@@ -1,10 +1,11 @@
 //! Faults of several threads at once: the lowest-numbered guest's is answered.
-use crate::tests::devices::run_beside;
+use crate::tests::devices::Other;
 use crate::tests::full::script_of_reads;
-use crate::tests::scene::{Step, adds, chain, check, result_read, script_where, two_scripts};
+use crate::tests::gates::slept_till;
+use crate::tests::runs::{Ends, run, run_openly};
+use crate::tests::scene::{Step, check, formatted, script_of, scripts_by, two_scripts};
+use disk::CutDisk;
 use host::HostFault;
-use mmio_transport::Device;
-use rpmb_frame::GuestConfig;
 use std::alloc::Global;
 use std::sync::Wait;
 use std::sync::atomic::{AtomicBool, Ordering};
@@ -12,59 +13,33 @@ use std::test::Fail;
 use std::thread;
 use std::thread::Threads;
 use std::time::{Clock, Duration};
-use workers::{Gate, Open, Order, Place, Script, Who};
+use workers::{Gate, Place, Script, Who};
 
-/// A device whose jobs are another guest's: at the first the worker comes to `Foreign`.
-fn foreign(alloc: Global) -> Option<Device> {
-    Device::new(alloc, 63, &GuestConfig::of_capacity(1)).ok()
+/// The scripts of two guests with a key each.
+fn two_keys(alloc: Global) -> Option<Vec<Script>> {
+    two_scripts(alloc, &[Step::Key(0x11)], &[Step::Key(0x11)])
 }
 
-/// A device with too little memory for its driver, which comes to `OutOfRange` with its first
-/// chain.
-fn narrow(alloc: Global, number: u16) -> Option<Device> {
-    let mut config = GuestConfig::of_capacity(1);
-    config.memory = 65_536;
-    Device::new(alloc, number, &config).ok()
-}
-
-/// The fault of a run of two guests with a chain each, of which guest 1 has this device. Of the
-/// disk the k-th call after the opening fails.
-fn fault_beside<G: Gate + Sync, R: Threads + Wait + Sync>(
-    rt: &R,
-    alloc: Global,
-    device: Device,
-    gate: &G,
-    k: u64,
-) -> Option<Option<HostFault>> {
-    let Some(scripts) = two_scripts(alloc, &[Step::Key], &[Step::Key]) else {
-        return None;
-    };
-    let mut others = [None, Some(device)];
-    let Some(ran) = run_beside(rt, alloc, &mut others, &scripts, gate, k) else {
-        return None;
-    };
-    Some(ran.fault)
-}
-
-/// Whether a run ends with this fault of which guest 1 has this device.
+/// Whether a run of two guests ends with this fault of which guest 1 has this device.
 fn ends_at<R: Threads + Wait + Sync>(
     rt: &R,
     alloc: Global,
-    device: Option<Device>,
+    other: Other<'_>,
     fault: HostFault,
 ) -> bool {
-    match device {
-        Some(device) => fault_beside(rt, alloc, device, &Open, 0) == Some(Some(fault)),
+    match two_keys(alloc) {
+        Some(scripts) => {
+            run_openly(rt, alloc, &[(1, other)], &scripts, &Ends) == Some(Err(fault))
+        }
         None => false,
     }
 }
 
 #[test]
 fn each_fault_alone_ends_a_run(rt: HostRuntime) -> Result<(), Fail> {
-    let alloc = rt.alloc();
     check(
-        ends_at(&rt, alloc, foreign(alloc), HostFault::Foreign)
-            && ends_at(&rt, alloc, narrow(alloc, 1), HostFault::OutOfRange),
+        ends_at(&rt, rt.alloc(), Other::Foreign, HostFault::Foreign)
+            && ends_at(&rt, rt.alloc(), Other::Narrow(1), HostFault::OutOfRange),
         "no foreign job, or no narrow memory",
     )
 }
@@ -89,43 +64,24 @@ impl<'a, C: Clock> Gate for HoldsAWhile<'a, C> {
 
 /// A script with one chain behind many resets, so that the other guest's worker has popped before.
 fn late_script(alloc: Global) -> Option<Script> {
-    let mut orders = Vec::new(alloc);
-    let mut made = true;
-    for _ in 0..1_000 {
-        made = made && orders.push(Order::Reset).is_ok();
+    let Ok(mut steps) = vec![in alloc; Step::Reset; 1_000] else {
+        return None;
+    };
+    if steps.push(Step::Outcome).is_err() {
+        return None;
     }
-    made = made && adds(&mut orders, chain(alloc, &[result_read()]));
-    script_where(made, orders)
+    script_of(alloc, &steps)
 }
 
 /// The scripts of two guests, of which this one's is late.
-fn late_scripts(alloc: Global, late: u16) -> Option<[Script; 2]> {
-    let Some(resets) = late_script(alloc) else {
-        return None;
-    };
-    let Some(one) = script_of_reads(alloc, 1) else {
-        return None;
-    };
-    if late == 0 {
-        Some([resets, one])
-    } else {
-        Some([one, resets])
-    }
-}
-
-/// The devices of two guests, at which this one's driver comes to a fault, and the other's worker.
-fn late_devices(alloc: Global, driver: u16) -> Option<[Option<Device>; 2]> {
-    let Some(narrow) = narrow(alloc, driver) else {
-        return None;
-    };
-    let Some(stranger) = foreign(alloc) else {
-        return None;
-    };
-    if driver == 0 {
-        Some([Some(narrow), Some(stranger)])
-    } else {
-        Some([Some(stranger), Some(narrow)])
-    }
+fn late_scripts(alloc: Global, late: u8) -> Option<Vec<Script>> {
+    scripts_by(alloc, 2, |guest| {
+        if guest == late {
+            late_script(alloc)
+        } else {
+            script_of_reads(alloc, 1)
+        }
+    })
 }
 
 /// A run of two guests, of which this one's driver comes to a fault, and the other's worker, which
@@ -134,38 +90,41 @@ fn late_devices(alloc: Global, driver: u16) -> Option<[Option<Device>; 2]> {
 fn run_late<R: Threads + Wait + Clock + Sync>(
     rt: &R,
     alloc: Global,
-    driver: u16,
-) -> Option<(Option<HostFault>, bool)> {
+    driver: u8,
+) -> Option<(HostFault, bool)> {
     let gate = HoldsAWhile {
         clock: rt,
-        held: 1 - driver % 2,
+        held: u16::from(1 - driver % 2),
         popped: AtomicBool::new(false),
     };
     let Some(scripts) = late_scripts(alloc, driver) else {
         return None;
     };
-    let Some(mut others) = late_devices(alloc, driver) else {
+    let Some(disk) = formatted(alloc, 2) else {
         return None;
     };
-    let Some(ran) = run_beside(rt, alloc, &mut others, &scripts, &gate, 0) else {
-        return None;
-    };
-    Some((ran.fault, gate.popped.load(Ordering::SeqCst)))
+    let others = [
+        (usize::from(driver), Other::Narrow(u16::from(driver))),
+        (usize::from(1 - driver % 2), Other::Foreign),
+    ];
+    match run(rt, alloc, disk, &others, &scripts, &gate, &Ends) {
+        Some(Err(fault)) => Some((fault, gate.popped.load(Ordering::SeqCst))),
+        _ => None,
+    }
 }
 
 /// Such runs, until in one both came to a fault: that one ends with this.
 fn ends_with<R: Threads + Wait + Clock + Sync>(
     rt: &R,
     alloc: Global,
-    driver: u16,
+    driver: u8,
     fault: HostFault,
 ) -> bool {
     for _ in 0..100 {
-        let Some((found, both)) = run_late(rt, alloc, driver) else {
-            return false;
-        };
-        if both {
-            return found == Some(fault);
+        match run_late(rt, alloc, driver) {
+            Some((found, true)) => return found == fault,
+            Some((_, false)) => {}
+            None => return false,
         }
     }
     false
@@ -208,35 +167,64 @@ impl<'a, C: Clock> Gate for HoldsTillPublished<'a, C> {
     }
 }
 
-/// Sleeps until the flag stands, for fifty seconds at most.
-pub fn slept_till(clock: &impl Clock, flag: &AtomicBool) -> bool {
-    for _ in 0..50_000 {
-        if flag.load(Ordering::SeqCst) {
-            return true;
+/// A fresh image on a disk whose k-th call fails.
+fn failing(alloc: Global, k: u64) -> Option<CutDisk> {
+    let Some(fresh) = formatted(alloc, 2) else {
+        return None;
+    };
+    let Ok(content) = fresh.content().to_vec(alloc) else {
+        return None;
+    };
+    let Ok(mut disk) = CutDisk::new(alloc, content) else {
+        return None;
+    };
+    disk.fail(k);
+    Some(disk)
+}
+
+/// The fault of a run of which the first call behind the opening fails: where one of the opening
+/// does, there is no run. Guest 1's jobs are another's.
+fn fault_of_first<G: Gate + Sync, R: Threads + Wait + Sync>(
+    rt: &R,
+    alloc: Global,
+    scripts: &[Script],
+    gate: &G,
+) -> Option<Result<bool, HostFault>> {
+    for k in 1..100 {
+        let Some(disk) = failing(alloc, k) else {
+            return None;
+        };
+        let ended = run(
+            rt,
+            alloc,
+            disk,
+            &[(1, Other::Foreign)],
+            scripts,
+            gate,
+            &Ends,
+        );
+        if ended.is_some() {
+            return ended;
         }
-        thread::sleep(clock, Duration::from_millis(1));
     }
-    false
+    None
 }
 
 // The one call of the disk that the key leads to fails, and guest 0 is told so before guest 1's
 // worker goes on.
 #[test]
 fn a_fault_is_answered_where_a_call_of_the_disk_has_failed(rt: HostRuntime) -> Result<(), Fail> {
-    let alloc = rt.alloc();
     let gate = HoldsTillPublished {
         clock: &rt,
         called: AtomicBool::new(false),
         published: AtomicBool::new(false),
     };
-    let Some(device) = foreign(alloc) else {
-        return Err(Fail::from("no device"));
+    let Some(scripts) = two_keys(rt.alloc()) else {
+        return Err(Fail::from("no scripts"));
     };
-    let Some(fault) = fault_beside(&rt, alloc, device, &gate, 1) else {
-        return Err(Fail::from("no fault"));
-    };
+    let ended = fault_of_first(&rt, rt.alloc(), &scripts, &gate);
     check(
-        fault == Some(HostFault::Foreign)
+        ended == Some(Err(HostFault::Foreign))
             && gate.called.load(Ordering::SeqCst)
             && gate.published.load(Ordering::SeqCst),
         "another fault, no call, no reply before",

@@ -1,87 +1,26 @@
 //! Gates that hold a thread until another has come somewhere. A thread that is held in vain for so
-//! many turns goes on, and the gate says so.
+//! many turns goes on, and the watch says so.
 use disk::Hook;
 use std::sync::atomic::{AtomicBool, Ordering};
 use std::thread;
+use std::time::{Clock, Duration};
 use workers::{Gate, Place, Who};
 
 /// How many turns a thread is held at most.
 pub const TURNS: u32 = 1_000_000;
 
-/// Waits for the flag, for so many turns at most.
-fn waited_for(flag: &AtomicBool, turns: u32) -> bool {
-    for _ in 0..turns {
+/// Sleeps until the flag stands, for fifty seconds at most.
+pub fn slept_till(clock: &impl Clock, flag: &AtomicBool) -> bool {
+    for _ in 0..50_000 {
         if flag.load(Ordering::SeqCst) {
             return true;
         }
-        thread::yield_now();
+        thread::sleep(clock, Duration::from_millis(1));
     }
     false
 }
 
-/// Holds the worker of one guest at `Submitted` until the worker of the other reaches `Published`,
-/// and the other's at `Popped` until the first stands there.
-#[derive(Drop)]
-pub struct HoldsOne {
-    held: u16,
-    turns: u32,
-    submitted: AtomicBool,
-    published: AtomicBool,
-    late: AtomicBool,
-}
-
-impl HoldsOne {
-    /// A gate that holds the worker of this guest, for so many turns at most.
-    pub fn new(held: u16, turns: u32) -> HoldsOne {
-        HoldsOne {
-            held,
-            turns,
-            submitted: AtomicBool::new(false),
-            published: AtomicBool::new(false),
-            late: AtomicBool::new(false),
-        }
-    }
-
-    /// Whether a worker was held in vain.
-    pub fn is_late(&self) -> bool {
-        self.late.load(Ordering::SeqCst)
-    }
-
-    fn wait(&self, flag: &AtomicBool) {
-        if !waited_for(flag, self.turns) {
-            self.late.store(true, Ordering::SeqCst);
-        }
-    }
-}
-
-impl Gate for HoldsOne {
-    fn at(&self, who: Who, place: Place) {
-        let Who::Worker(guest) = who else {
-            return;
-        };
-        match place {
-            Place::Popped => {
-                if guest != self.held {
-                    self.wait(&self.submitted);
-                }
-            }
-            Place::Submitted => {
-                if guest == self.held {
-                    self.submitted.store(true, Ordering::SeqCst);
-                    self.wait(&self.published);
-                }
-            }
-            Place::Published => {
-                if guest != self.held {
-                    self.published.store(true, Ordering::SeqCst);
-                }
-            }
-            Place::BeforeCall => {}
-        }
-    }
-}
-
-/// What a hook and a gate tell each other.
+/// What gates and a hook tell each other.
 #[derive(Drop)]
 pub struct Watch {
     turns: u32,
@@ -89,6 +28,7 @@ pub struct Watch {
     running: AtomicBool,
     in_sync: AtomicBool,
     submitted: AtomicBool,
+    published: AtomicBool,
     late: AtomicBool,
 }
 
@@ -100,18 +40,43 @@ impl Watch {
             running: AtomicBool::new(false),
             in_sync: AtomicBool::new(false),
             submitted: AtomicBool::new(false),
+            published: AtomicBool::new(false),
             late: AtomicBool::new(false),
         }
     }
 
-    /// Whether the sync or the worker was held in vain.
+    /// Whether a thread was held in vain.
     pub fn is_late(&self) -> bool {
         self.late.load(Ordering::SeqCst)
     }
 
     fn wait(&self, flag: &AtomicBool) {
-        if !waited_for(flag, self.turns) {
-            self.late.store(true, Ordering::SeqCst);
+        for _ in 0..self.turns {
+            if flag.load(Ordering::SeqCst) {
+                return;
+            }
+            thread::yield_now();
+        }
+        self.late.store(true, Ordering::SeqCst);
+    }
+}
+
+/// Holds the worker of this guest at `Submitted` until the worker of the other reaches `Published`,
+/// and the other's at `Popped` until the first stands there.
+#[derive(Clone, Copy)]
+pub struct HoldsOne<'a>(pub &'a Watch, pub u16);
+
+impl<'a> Gate for HoldsOne<'a> {
+    fn at(&self, who: Who, place: Place) {
+        let is_held = who == Who::Worker(self.1);
+        match place {
+            Place::Popped if !is_held => self.0.wait(&self.0.submitted),
+            Place::Submitted if is_held => {
+                self.0.submitted.store(true, Ordering::SeqCst);
+                self.0.wait(&self.0.published);
+            }
+            Place::Published if !is_held => self.0.published.store(true, Ordering::SeqCst),
+            _ => {}
         }
     }
 }

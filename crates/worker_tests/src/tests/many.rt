@@ -1,43 +1,16 @@
 //! Sixty-four guests at once, each with two hundred chains.
-use crate::tests::alone::{all_alone, are_all_told};
-use crate::tests::asking::script_of;
-use crate::tests::scene::{Ran, check, formatted_in_memory, run_on};
+use crate::tests::alone::{Alone, Replies, all_alone};
+use crate::tests::asking::script_asking;
+use crate::tests::runs::run_openly;
+use crate::tests::scene::{check, scripts_by};
 use std::alloc::Global;
 use std::sync::Wait;
 use std::test::Fail;
 use std::thread::Threads;
-use workers::{Open, Script};
-
-const GUESTS: u8 = 64;
-
-/// A script for each guest; `salt` makes those of one test others than those of the next.
-fn scripts_of(alloc: Global, salt: u8) -> Option<Vec<Script>> {
-    let Ok(mut scripts) = Vec::with_capacity(alloc, usize::from(GUESTS)) else {
-        return None;
-    };
-    for guest in 0..GUESTS {
-        let Some(script) = script_of(alloc, guest, salt) else {
-            return None;
-        };
-
-        if scripts.push(script).is_err() {
-            return None;
-        }
-    }
-    Some(scripts)
-}
-
-/// Each guest was told what it is told alone.
-fn check_told(ran: &Ran, alone: &[Vec<Vec<u8>>]) -> bool {
-    if !ran.check_end() || ran.broken || ran.turns != 12_800 {
-        return false;
-    }
-    let are_told = are_all_told(&ran.drivers, alone);
-    are_told
-}
+use workers::Script;
 
 /// Each guest has two hundred chains.
-fn check_chains(alone: &[Vec<Vec<u8>>]) -> bool {
+fn are_whole(alone: &[Replies]) -> bool {
     for replies in alone {
         if replies.len() != 200 {
             return false;
@@ -46,57 +19,44 @@ fn check_chains(alone: &[Vec<Vec<u8>>]) -> bool {
     true
 }
 
-/// One run of these scripts on a fresh image.
-fn run_once<R: Threads + Wait + Sync>(
-    rt: &R,
-    alloc: Global,
-    scripts: &[Script],
-    alone: &[Vec<Vec<u8>>],
-) -> bool {
-    let Some(disk) = formatted_in_memory(alloc, scripts.len()) else {
+/// Five runs of one board, in which each guest is told what it is told alone.
+fn run_five<R: Threads + Wait + Sync>(rt: &R, alloc: Global, scripts: &[Script]) -> bool {
+    let Some(alone) = all_alone(alloc, scripts) else {
         return false;
     };
-    let Some(ran) = run_on(rt, alloc, disk, scripts, &Open) else {
-        return false;
-    };
-    check_told(&ran, alone)
-}
-
-/// Five runs of one board.
-fn run_five<R: Threads + Wait + Sync>(rt: &R, alloc: Global, salt: u8) -> bool {
-    let Some(scripts) = scripts_of(alloc, salt) else {
-        return false;
-    };
-    let Some(alone) = all_alone(alloc, &scripts) else {
-        return false;
-    };
-    if !check_chains(&alone) {
-        return false;
-    }
     for _ in 0..5 {
-        if !run_once(rt, alloc, &scripts, &alone) {
+        let look = Alone(&alone, 12_800);
+        if run_openly(rt, alloc, &[], scripts, &look) != Some(Ok(true)) {
             return false;
         }
     }
-    true
+    are_whole(&alone)
+}
+
+/// The same of these scripts; `salt` makes those of one test others than those of the next.
+fn are_told_alike<R: Threads + Wait + Sync>(rt: &R, alloc: Global, salt: u8) -> Result<(), Fail> {
+    match scripts_by(alloc, 64, |guest| script_asking(alloc, guest, salt)) {
+        Some(scripts) => check(run_five(rt, alloc, &scripts), "another outcome"),
+        None => Err(Fail::from("no scripts")),
+    }
 }
 
 #[test]
 fn sixty_four_guests_are_told_what_each_is_told_alone(rt: HostRuntime) -> Result<(), Fail> {
-    check(run_five(&rt, rt.alloc(), 0), "another outcome")
+    are_told_alike(&rt, rt.alloc(), 0)
 }
 
 #[test]
 fn sixty_four_guests_are_told_so_with_second_scripts(rt: HostRuntime) -> Result<(), Fail> {
-    check(run_five(&rt, rt.alloc(), 1), "another outcome")
+    are_told_alike(&rt, rt.alloc(), 1)
 }
 
 #[test]
 fn sixty_four_guests_are_told_so_with_third_scripts(rt: HostRuntime) -> Result<(), Fail> {
-    check(run_five(&rt, rt.alloc(), 2), "another outcome")
+    are_told_alike(&rt, rt.alloc(), 2)
 }
 
 #[test]
 fn sixty_four_guests_are_told_so_with_fourth_scripts(rt: HostRuntime) -> Result<(), Fail> {
-    check(run_five(&rt, rt.alloc(), 3), "another outcome")
+    are_told_alike(&rt, rt.alloc(), 3)
 }

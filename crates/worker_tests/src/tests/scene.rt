@@ -1,21 +1,12 @@
-//! A board on a fresh disk, the requests that its guests make, and a run of their scripts.
-ghost use Rattle.std.specs.Prelude.{◌≡◌, All, IfSome};
-ghost use Rattle.rpmb_book.specs.Book.{counted_in};
-ghost use Rattle.workers.specs.Following.{Follow};
-
-use board::{Board, Parts};
-use disk::{CutDisk, Disk, MemDisk};
-use host::HostFault;
+//! Boards of guests that aren't all alike, fresh images of them, and what their guests do.
+use disk::{Disk, MemDisk};
+use hmac256::mac_of;
 use intent_slots::Layout;
 use recovery::format;
 use rpmb_frame::{BoardConfig, Frame, GuestConfig};
 use std::alloc::Global;
-use std::sync::Wait;
 use std::test::Fail;
-use std::thread::Threads;
-use workers::{Chain, DriverEnd, Ended, Gate, Order, Script, parts_of, serve};
-
-pub const KEY: [u8; 32] = [0x11; 32];
+use workers::{Chain, Order, Script};
 
 pub fn check(holds: bool, what: &'static str) -> Result<(), Fail> {
     if holds { Ok(()) } else { Err(Fail::from(what)) }
@@ -46,44 +37,27 @@ pub fn board_of(alloc: Global, guests: usize) -> Option<BoardConfig> {
     BoardConfig::new(configs).ok()
 }
 
-/// A fresh image of a board of so many guests.
-pub fn formatted(alloc: Global, guests: usize) -> Option<CutDisk> {
-    let Some(board) = board_of(alloc, guests) else {
-        return None;
-    };
-    let layout = Layout::of(&board);
-    let Ok(bytes) = vec![in alloc; 0xee; layout.length() as usize] else {
-        return None;
-    };
-    let Ok(mut disk) = CutDisk::new(alloc, bytes) else {
-        return None;
-    };
-    if disk.len() != layout.length() {
-        return None;
+fn is_formatted(disk: &mut MemDisk, board: &BoardConfig) -> bool {
+    if disk.len() != Layout::of(board).length() {
+        return false;
     }
-    if format(&mut disk, &board).is_err() {
-        return None;
-    }
-    Some(disk)
+    format(disk, board).is_ok()
 }
 
-/// The same on a disk that keeps no calls, for runs of many requests.
-pub fn formatted_in_memory(alloc: Global, guests: usize) -> Option<MemDisk> {
+/// A fresh image of a board of so many guests, on a disk that held something else.
+pub fn formatted(alloc: Global, guests: usize) -> Option<MemDisk> {
     let Some(board) = board_of(alloc, guests) else {
         return None;
     };
-    let layout = Layout::of(&board);
-    let Ok(bytes) = vec![in alloc; 0xee; layout.length() as usize] else {
+    let Ok(bytes) = vec![in alloc; 0xee; Layout::of(&board).length() as usize] else {
         return None;
     };
     let mut disk = MemDisk::new(bytes);
-    if disk.len() != layout.length() {
-        return None;
+    if is_formatted(&mut disk, &board) {
+        Some(disk)
+    } else {
+        None
     }
-    if format(&mut disk, &board).is_err() {
-        return None;
-    }
-    Some(disk)
 }
 
 /// The frame that asks for the result.
@@ -101,17 +75,69 @@ pub fn program_key(key: &[u8; 32]) -> [[u8; 512]; 2] {
 }
 
 /// The frame that asks for the write counter under this nonce.
-pub fn get_write_counter(nonce: u128) -> [[u8; 512]; 1] {
-    let frame = Frame::zeros()
+pub fn get_write_counter(nonce: u128) -> [u8; 512] {
+    Frame::zeros()
         .with_nonce(&nonce.to_be_bytes())
         .with_block_count(1)
-        .with_req_resp(0x0002);
-    [frame.to_bytes()]
+        .with_req_resp(0x0002)
+        .to_bytes()
 }
 
-/// A chain of these frames, with room for one frame.
-pub fn chain(alloc: Global, frames: &[[u8; 512]]) -> Option<Order> {
-    let Ok(readable) = frames.as_flattened().to_vec(alloc) else {
+/// A block of this byte is written there, under a key of 32 such bytes and this write counter.
+#[derive(Clone, Copy)]
+pub struct Write {
+    pub key: u8,
+    pub counter: u32,
+    pub address: u16,
+    pub byte: u8,
+}
+
+/// The frames of a write, and a request for the result.
+fn write_of(write: &Write) -> [[u8; 512]; 2] {
+    let frame = Frame::zeros()
+        .with_block_data(&[write.byte; 256])
+        .with_write_counter(write.counter)
+        .with_address(write.address)
+        .with_block_count(1)
+        .with_req_resp(0x0003);
+    let mac = mac_of(&[write.key; 32], &[frame.to_bytes()]);
+    [frame.with_key_mac(&mac).to_bytes(), result_read()]
+}
+
+/// The frame that reads the block there.
+fn read_of(nonce: u128, address: u16) -> [u8; 512] {
+    Frame::zeros()
+        .with_nonce(&nonce.to_be_bytes())
+        .with_address(address)
+        .with_block_count(1)
+        .with_req_resp(0x0004)
+        .to_bytes()
+}
+
+/// What a guest does at one place of its script.
+#[derive(Clone, Copy)]
+pub enum Step {
+    /// It programs a key of 32 such bytes, and asks for the result.
+    Key(u8),
+    /// It asks for the write counter under this nonce.
+    Counter(u128),
+    /// It writes a block, and asks for the result.
+    Write(Write),
+    /// It reads the block there under this nonce.
+    Read(u128, u16),
+    /// It asks for the result.
+    Outcome,
+    /// It makes a request of a type that there is not.
+    Unknown,
+    /// It offers a hundred such bytes, which make no frame.
+    Garbage(u8),
+    /// It resets the device.
+    Reset,
+}
+
+/// A chain of these bytes, with room for one frame.
+fn chain(alloc: Global, bytes: &[u8]) -> Option<Order> {
+    let Ok(readable) = bytes.to_vec(alloc) else {
         return None;
     };
     if readable.is_empty() || readable.len() > 8704 {
@@ -120,16 +146,35 @@ pub fn chain(alloc: Global, frames: &[[u8; 512]]) -> Option<Order> {
     Some(Order::Chain(Chain::new(readable, 512)))
 }
 
+/// The order that a step stands for.
+fn order_of(alloc: Global, step: &Step) -> Option<Order> {
+    match step {
+        Step::Key(byte) => chain(alloc, program_key(&[*byte; 32]).as_flattened()),
+        Step::Counter(nonce) => chain(alloc, &get_write_counter(*nonce)),
+        Step::Write(write) => chain(alloc, write_of(write).as_flattened()),
+        Step::Read(nonce, address) => chain(alloc, &read_of(*nonce, *address)),
+        Step::Outcome => chain(alloc, &result_read()),
+        Step::Unknown => chain(alloc, &Frame::zeros().with_req_resp(0x0077).to_bytes()),
+        Step::Garbage(byte) => chain(alloc, &[*byte; 100]),
+        Step::Reset => Some(Order::Reset),
+    }
+}
+
 /// Whether an order was made, and stands behind these now.
-pub fn adds(orders: &mut Vec<Order>, order: Option<Order>) -> bool {
+fn adds(orders: &mut Vec<Order>, order: Option<Order>) -> bool {
     match order {
         Some(order) => orders.push(order).is_ok(),
         None => false,
     }
 }
 
-/// The script of these orders, where all were made.
-pub fn script_where(made: bool, orders: Vec<Order>) -> Option<Script> {
+/// The script of a guest that does these steps one after another.
+pub fn script_of(alloc: Global, steps: &[Step]) -> Option<Script> {
+    let mut orders = Vec::new(alloc);
+    let mut made = true;
+    for step in steps {
+        made = made && adds(&mut orders, order_of(alloc, step));
+    }
     if made {
         Some(Script::new(orders))
     } else {
@@ -137,156 +182,35 @@ pub fn script_where(made: bool, orders: Vec<Order>) -> Option<Script> {
     }
 }
 
-/// What a guest does at one place of its script.
-#[derive(Clone, Copy)]
-pub enum Step {
-    /// It programs its key, and asks for the result.
-    Key,
-    /// It asks for the write counter under this nonce.
-    Counter(u8),
-    /// It resets the device.
-    Reset,
-}
-
-/// The order that a step stands for, of a guest with this key.
-fn order_of(alloc: Global, key: &[u8; 32], step: &Step) -> Option<Order> {
-    match step {
-        Step::Key => chain(alloc, &program_key(key)),
-        Step::Counter(nonce) => chain(alloc, &get_write_counter(u128::from(*nonce))),
-        Step::Reset => Some(Order::Reset),
+/// Whether a script was made, and stands behind these now.
+fn adds_script(scripts: &mut Vec<Script>, script: Option<Script>) -> bool {
+    match script {
+        Some(script) => scripts.push(script).is_ok(),
+        None => false,
     }
 }
 
-/// The script of a guest with this key, which does these steps one after another.
-pub fn script_of_steps(alloc: Global, key: &[u8; 32], steps: &[Step]) -> Option<Script> {
-    let mut orders = Vec::new(alloc);
+/// A script for each of so many guests, as this makes it.
+pub fn scripts_by<F: Fn(u8) -> Option<Script>>(
+    alloc: Global,
+    guests: u8,
+    make: F,
+) -> Option<Vec<Script>>
+    requires { F.IsAlwaysCallable make }
+{
+    let mut scripts = Vec::new(alloc);
     let mut made = true;
-    for step in steps.iter() {
-        made = made && adds(&mut orders, order_of(alloc, key, step));
+    for guest in 0..guests {
+        made = made && adds_script(&mut scripts, make(guest));
     }
-    script_where(made, orders)
+    if made { Some(scripts) } else { None }
 }
 
 /// The scripts of two guests, of which the first does these steps, and the second those.
-pub fn two_scripts(alloc: Global, first: &[Step], second: &[Step]) -> Option<[Script; 2]> {
-    let Some(first) = script_of_steps(alloc, &KEY, first) else {
-        return None;
-    };
-    let Some(second) = script_of_steps(alloc, &KEY, second) else {
-        return None;
-    };
-    Some([first, second])
-}
-
-/// The parts of a board that was just opened.
-pub fn opened<D: Disk>(alloc: Global, disk: D, board: &BoardConfig) -> Option<Parts<D>>
-    ensures new_book { IfSome result (λ p. counted_in p.book ≡ 0) }
-    ensures fresh { IfSome result (λ p. All (λ t. t.count ≡ 0) p.tallies.items) }
-    ensures follows { IfSome result (λ p. Follow p.shares p.store.guests) }
-{
-    match Board::open(alloc, disk, 1, board) {
-        Ok(opened) => Some(parts_of(opened, board)),
-        Err(_) => None,
-    }
-}
-
-/// A run of these scripts, one a guest, over the parts of a board that was just opened.
-pub fn run_of<D: Disk + Send + Drop, G: Gate + Sync, R: Threads + Wait + Sync>(
-    rt: &R,
-    alloc: Global,
-    parts: Parts<D>,
-    board: &BoardConfig,
-    scripts: &[Script],
-    gate: &G,
-) -> Option<Result<Ended<D>, HostFault>>
-    requires new_book { counted_in parts.book ≡ 0 }
-    requires fresh { All (λ t. t.count ≡ 0) parts.tallies.items }
-    requires follows { Follow parts.shares parts.store.guests }
-{
-    if parts.tallies.len() != scripts.len() {
-        return None;
-    }
-    Some(serve(rt, alloc, parts, board, scripts, gate))
-}
-
-/// What is looked at of a run. All else that a run leaves is let go at once, since it is dear to
-/// prove that it goes.
-#[derive(Drop)]
-pub struct Ran {
-    /// The fault that it ended with, where it did; all else is nothing then.
-    pub fault: Option<HostFault>,
-    /// Whether a call of the disk has failed.
-    pub broken: bool,
-    /// How many requests were answered.
-    pub turns: u64,
-    /// What became of the guests' chains.
-    pub drivers: Vec<DriverEnd>,
-}
-
-impl Ran {
-    /// Fails where the run ended with a fault.
-    pub fn check_end(&self) -> bool {
-        self.fault.is_none()
-    }
-}
-
-/// What is looked at of an outcome.
-pub fn looked_at<D: Disk + Drop>(alloc: Global, outcome: Result<Ended<D>, HostFault>) -> Ran {
-    match outcome {
-        Ok(ended) => {
-            let Ended {
-                book,
-                served: _,
-                drivers,
-                shares: _,
-                store: _,
-                broken,
-            } = ended;
-            Ran {
-                fault: None,
-                broken,
-                turns: book.submit_turns(),
-                drivers,
-            }
-        }
-        Err(fault) => Ran {
-            fault: Some(fault),
-            broken: false,
-            turns: 0,
-            drivers: Vec::new(alloc),
-        },
-    }
-}
-
-/// What a run of these scripts comes to, one a guest, on an image of as many guests.
-pub fn outcome_on<D: Disk + Send + Drop, G: Gate + Sync, R: Threads + Wait + Sync>(
-    rt: &R,
-    alloc: Global,
-    disk: D,
-    scripts: &[Script],
-    gate: &G,
-) -> Option<Result<Ended<D>, HostFault>> {
-    let Some(board) = board_of(alloc, scripts.len()) else {
-        return None;
-    };
-    let Some(parts) = opened(alloc, disk, &board) else {
-        return None;
-    };
-    run_of(rt, alloc, parts, &board, scripts, gate)
-}
-
-/// A run of these scripts, one a guest, on an image of as many guests.
-pub fn run_on<D: Disk + Send + Drop, G: Gate + Sync, R: Threads + Wait + Sync>(
-    rt: &R,
-    alloc: Global,
-    disk: D,
-    scripts: &[Script],
-    gate: &G,
-) -> Option<Ran> {
-    let Some(outcome) = outcome_on(rt, alloc, disk, scripts, gate) else {
-        return None;
-    };
-    Some(looked_at(alloc, outcome))
+pub fn two_scripts(alloc: Global, first: &[Step], second: &[Step]) -> Option<Vec<Script>> {
+    scripts_by(alloc, 2, |guest| {
+        script_of(alloc, if guest == 0 { first } else { second })
+    })
 }
 
 /// The last twelve bytes of a reply: write counter, address, block count, result and type.

@@ -1,12 +1,12 @@
 //! A worker that waits for the history: the first reply of it is another guest's, and needs a sync
 //! that is held back.
-use crate::tests::faults::slept_till;
+use crate::tests::devices::{AVAILABLE, DESCRIPTORS, Other, REPLY, REQUEST, descriptor, outside};
 use crate::tests::full::script_of_reads;
-use crate::tests::scene::{
-    KEY, Ran, Step, check, formatted_in_memory, run_on, script_of_steps, tail_of,
-};
+use crate::tests::gates::slept_till;
+use crate::tests::runs::{Ending, Look, run};
+use crate::tests::scene::{Step, check, formatted, program_key, script_of, scripts_by};
+use crate::tests::threads::{PROGRAMMED, is_reply};
 use disk::{Hook, HookDisk};
-use host::Answer;
 use std::alloc::Global;
 use std::sync::Wait;
 use std::sync::atomic::{AtomicBool, AtomicU64, Ordering};
@@ -14,7 +14,7 @@ use std::test::Fail;
 use std::thread;
 use std::thread::Threads;
 use std::time::{Clock, Duration};
-use workers::{DriverEnd, Gate, Place, Script, Who};
+use workers::{Gate, Place, Script, Who};
 
 /// How many requests a history holds: guest 0's key, and one less than guest 1 asks.
 const SUBMITS: u16 = 16_384;
@@ -115,53 +115,89 @@ impl<'a, C: Clock> Gate for Tells<'a, C> {
     }
 }
 
-/// Whether a guest was told that its key is programmed.
-fn is_programmed(driver: &DriverEnd) -> bool {
-    match driver.answers.get(0) {
-        Some(Answer::Used(reply)) => {
-            tail_of(reply) == [0, 0, 0, 0, 0, 0, 0, 1, 0, 0, 1, 0].as_slice()
+/// All requests of both guests were answered, and guest 0 was told that its key is programmed,
+/// where it asked for that itself.
+#[derive(Clone, Copy)]
+struct BothAnswered {
+    is_told: bool,
+}
+
+impl Look for BothAnswered {
+    fn is_met<E: Ending>(&self, ended: &E) -> bool {
+        let [first, second] = ended.drivers() else {
+            return false;
+        };
+        ended.turns() == u64::from(SUBMITS) + 1
+            && second.answers.len() == usize::from(SUBMITS)
+            && is_reply(first.answers.get(0), &PROGRAMMED) == self.is_told
+    }
+}
+
+/// A script of this step, and one of as many reads as a history holds.
+fn scripts_of(alloc: Global, first: Step) -> Option<Vec<Script>> {
+    scripts_by(alloc, 2, |guest| {
+        if guest == 0 {
+            script_of(alloc, &[first])
+        } else {
+            script_of_reads(alloc, SUBMITS)
         }
-        _ => false,
-    }
+    })
 }
 
-fn check_ran(ran: &Ran) -> bool {
-    if !ran.check_end() || ran.turns != u64::from(SUBMITS) + 1 {
-        return false;
-    }
-    let [first, second] = ran.drivers.as_slice() else {
-        return false;
-    };
-    is_programmed(first) && second.answers.len() == usize::from(SUBMITS)
-}
-
-/// A script of the key, and one of as many reads as a history holds.
-fn scripts(alloc: Global) -> Option<[Script; 2]> {
-    let Some(first) = script_of_steps(alloc, &KEY, &[Step::Key]) else {
-        return None;
-    };
-    let Some(second) = script_of_reads(alloc, SUBMITS) else {
-        return None;
-    };
-    Some([first, second])
-}
-
-fn run_held<R: Threads + Wait + Clock + Sync>(rt: &R, alloc: Global) -> bool {
+/// Whether guest 1's worker waits for the history, while the sync of guest 0's key is held back,
+/// and both guests' requests are answered then.
+fn run_held<R: Threads + Wait + Clock + Sync>(
+    rt: &R,
+    alloc: Global,
+    other: Other<'_>,
+    first: Step,
+    look: BothAnswered,
+) -> bool {
     let watch = Watch::new(rt);
-    let Some(disk) = formatted_in_memory(alloc, 2) else {
+    let Some(scripts) = scripts_of(alloc, first) else {
+        return false;
+    };
+    let Some(disk) = formatted(alloc, 2) else {
         return false;
     };
     let disk = HookDisk::new(disk, HoldsSync(&watch));
-    let Some(scripts) = scripts(alloc) else {
-        return false;
-    };
-    let Some(ran) = run_on(rt, alloc, disk, &scripts, &Tells(&watch)) else {
-        return false;
-    };
-    check_ran(&ran) && watch.has_waited()
+    let others = [(0, other)];
+    let ended = run(rt, alloc, disk, &others, &scripts, &Tells(&watch), &look);
+    ended == Some(Ok(true)) && watch.has_waited()
 }
 
 #[test]
 fn a_worker_waits_for_the_first_reply_of_the_history(rt: HostRuntime) -> Result<(), Fail> {
-    check(run_held(&rt, rt.alloc()), "another outcome")
+    let look = BothAnswered { is_told: true };
+    check(
+        run_held(&rt, rt.alloc(), Other::Own, Step::Key(0x11), look),
+        "another outcome",
+    )
+}
+
+/// What an available ring holds of two chains: flags, the index 2, and the heads 0 and 2.
+static TWO_CHAINS: [u8; 8] = [0, 0, 2, 0, 0, 0, 2, 0];
+
+/// Guest 0's queue holds its key request, and then a chain that leaves guest memory, at which its
+/// device stops while the reply is held. Its worker stays until that reply has left, though its
+/// driver has ended.
+#[test]
+fn the_reply_of_a_stopped_guest_leaves_the_history(rt: HostRuntime) -> Result<(), Fail> {
+    let request = program_key(&[0x11; 32]);
+    let chains = [
+        descriptor(REQUEST, 1024, 1, 1),
+        descriptor(REPLY, 512, 2, 0),
+        outside(),
+    ];
+    let stores = [
+        (DESCRIPTORS, chains.as_flattened()),
+        (AVAILABLE, TWO_CHAINS.as_slice()),
+        (REQUEST, request.as_flattened()),
+    ];
+    let other = Other::Ready(stores.as_slice());
+    let look = BothAnswered { is_told: false };
+    check(
+        run_held(&rt, rt.alloc(), other, Step::Outcome, look),
+        "another outcome",
+    )
 }

@@ -74,11 +74,11 @@ fn run_two<G: Gate + Sync, R: Threads + Wait + Sync>(rt: &R, gate: &G, body: Bod
 fn is_caught<R: Threads + Wait + Sync>(rt: &R, body: Body, turns: u32) -> Option<[bool; 2]> {
     let mut late = [false; 2];
     for held in 0..2_u16 {
-        let gate = HoldsOne::new(held, turns);
-        if run_two(rt, &gate, body) != 2 {
+        let watch = Watch::new(turns);
+        if run_two(rt, &HoldsOne(&watch, held), body) != 2 {
             return None;
         }
-        late[usize::from(held)] = gate.is_late();
+        late[usize::from(held)] = watch.is_late();
     }
     Some(late)
 }
