@@ -1,13 +1,18 @@
-//! What happens to a world: a driver that sets its device up and offers chains, and the steps that
-//! take requests to their replies.
-
+//! What happens to a world or a board: a driver that sets its device up and offers chains, and the
+//! steps that take requests to their replies.
 use crate::tests::asked::{Asked, frames_of};
 use board::{Act, Step};
 use disk::Filler;
 use mmio_transport::register as reg;
 use std::alloc::Global;
-use std::test::Fail;
-use world::Event;
+use world::{Event, Refusal};
+
+/// What events happen to. The method promises nothing, so that what stands above it is proved
+/// without the contracts of a world or a board.
+pub trait Stage {
+    /// Lets an event happen; why it didn't, where it is refused.
+    fn happen(&mut self, event: Event) -> Option<Refusal>;
+}
 
 /// What a driver writes into the registers: a reset, VIRTIO_F_VERSION_1 alone, a queue of 16 with
 /// its descriptors at 0x1000, its available ring at 0x2000 and its used ring at 0x3000, and
@@ -43,7 +48,7 @@ fn descriptors(frames: usize) -> [u8; 32] {
     bytes
 }
 
-/// What happens in a world to one of its guests.
+/// What happens to one of the guests.
 #[derive(Clone, Copy)]
 pub enum Move {
     /// The image is opened.
@@ -58,8 +63,8 @@ pub enum Move {
     Advances(u32),
     /// The guest's next reply leaves, where it may.
     Reply,
-    /// The next call of the disk fails.
-    FailNext,
+    /// The call of the disk of this number from now on fails; with 0 none.
+    Fail(u64),
     /// A stop, with the filler of this number.
     Stop(u8),
     /// An upgrade of the image, stopped within its call of the first number with the filler of the
@@ -67,16 +72,19 @@ pub enum Move {
     Upgrade(u32, u8),
 }
 
-/// Events in their order, up to one that is to come in place of the store's n-th advance.
-#[derive(Drop)]
+/// How far what happens has come. Events come in their order, up to one that is to come in place of
+/// the store's n-th advance.
+#[derive(Clone, Copy)]
 pub struct Acts {
     alloc: Global,
-    pub events: Vec<Event>,
     /// How many advances come before the stop; None where there is no stop.
     left: Option<u32>,
     filler: u8,
+    has_stopped: bool,
     /// How many chains each guest has offered since its setup.
     offered: [u16; 3],
+    /// What was refused first.
+    pub refusal: Option<Refusal>,
 }
 
 /// The bytes that a stop of each number leaves in turn.
@@ -96,59 +104,47 @@ fn filler_of(alloc: Global, number: u8) -> Option<Filler> {
     match number {
         0 => Some(Filler::Old),
         1 => Some(Filler::New),
-        _ => Some(Filler::Fill(bytes_of(number).to_vec(alloc).ok()?)),
+        _ => match bytes_of(number).to_vec(alloc) {
+            Ok(bytes) => Some(Filler::Fill(bytes)),
+            Err(_) => None,
+        },
     }
 }
 
 impl Acts {
-    /// None yet; they end with a stop within the advance after `left` others.
+    /// Nothing has happened; all ends with a stop within the advance after `left` others.
     pub fn new(alloc: Global, left: Option<u32>, filler: u8) -> Acts {
         Acts {
             alloc,
-            events: Vec::new(alloc),
             left,
             filler,
+            has_stopped: false,
             offered: [0; 3],
+            refusal: None,
         }
     }
 
-    fn has_stopped(&self) -> bool {
-        matches!(self.events.last(), Some(Event::StopIn(_)))
-    }
-
     /// One more event, unless the stop has come.
-    fn add(&mut self, event: Event) -> bool {
-        if !self.has_stopped() {
-            if self.events.push(event).is_err() {
-                return false;
-            }
+    fn add<S: Stage>(&mut self, stage: &mut S, event: Event) -> bool {
+        if !self.has_stopped {
+            let refusal = stage.happen(event);
+            self.refusal = self.refusal.or(refusal);
         }
         true
     }
 
-    /// Once more a stop, within the first call after the opening.
-    pub fn stop_again(&mut self) -> bool {
-        let Some(filler) = filler_of(self.alloc, self.filler) else {
-            return false;
-        };
-        self.events.push(Event::StopIn(filler)).is_ok()
-    }
-
-    fn step(&mut self, step: Step) -> bool {
-        self.add(Event::Do(step))
+    pub fn step<S: Stage>(&mut self, stage: &mut S, step: Step) -> bool {
+        self.add(stage, Event::Do(step))
     }
 
     /// The stop in place of the store's next call.
-    fn stop_in(&mut self) -> bool {
+    fn stop_in<S: Stage>(&mut self, stage: &mut S) -> bool {
         let Some(filler) = filler_of(self.alloc, self.filler) else {
             return false;
         };
-        self.add(Event::StopIn(filler))
-    }
-
-    /// The store's next call, and what it means to the book.
-    fn call(&mut self) -> bool {
-        self.step(Step::Advance) && self.step(Step::Settle)
+        let made = self.add(stage, Event::StopIn(filler));
+        self.has_stopped = true;
+        made
     }
 
     /// One advance less until the stop; answers whether it comes now.
@@ -163,18 +159,18 @@ impl Acts {
         }
     }
 
-    /// The store's next call, or the stop in its place.
-    fn advance(&mut self) -> bool {
+    /// The store's next call and what it means to the book, or the stop in its place.
+    fn advance<S: Stage>(&mut self, stage: &mut S) -> bool {
         if self.is_due() {
-            self.stop_in()
+            self.stop_in(stage)
         } else {
-            self.call()
+            self.step(stage, Step::Advance) && self.step(stage, Step::Settle)
         }
     }
 
-    fn advances(&mut self, times: u32) -> bool {
+    fn advances<S: Stage>(&mut self, stage: &mut S, times: u32) -> bool {
         for _ in 0..times {
-            if !self.advance() {
+            if !self.advance(stage) {
                 return false;
             }
         }
@@ -182,38 +178,39 @@ impl Acts {
     }
 
     /// Sets a guest's device up.
-    fn set_up(&mut self, guest: u16) -> bool {
+    fn set_up<S: Stage>(&mut self, stage: &mut S, guest: u16) -> bool {
         if let Some(offered) = self.offered.get_mut(usize::from(guest)) {
             *offered = 0;
         }
-        self.write_all(guest, &SETUP)
+        self.write_all(stage, guest, &SETUP)
     }
 
     /// A guest writes these values into these registers.
-    pub fn write_all(&mut self, guest: u16, writes: &[(u32, u32)]) -> bool {
+    pub fn write_all<S: Stage>(
+        &mut self,
+        stage: &mut S,
+        guest: u16,
+        writes: &[(u32, u32)],
+    ) -> bool {
         for (offset, value) in writes {
-            if !self.write(guest, *offset, *value) {
+            let act = Act::Write {
+                offset: *offset,
+                width: 4,
+                value: *value,
+            };
+            if !self.step(stage, Step::Drive(guest, act)) {
                 return false;
             }
         }
         true
     }
 
-    fn write(&mut self, guest: u16, offset: u32, value: u32) -> bool {
-        let act = Act::Write {
-            offset,
-            width: 4,
-            value,
-        };
-        self.step(Step::Drive(guest, act))
-    }
-
     /// A guest stores bytes into its memory.
-    pub fn store(&mut self, guest: u16, at: u64, bytes: &[u8]) -> bool {
-        let Ok(bytes) = bytes.to_vec(self.alloc) else {
-            return false;
-        };
-        self.step(Step::Drive(guest, Act::Store { at, bytes }))
+    pub fn store<S: Stage>(&mut self, stage: &mut S, guest: u16, at: u64, bytes: &[u8]) -> bool {
+        match bytes.to_vec(self.alloc) {
+            Ok(bytes) => self.step(stage, Step::Drive(guest, Act::Store { at, bytes })),
+            Err(_) => false,
+        }
     }
 
     /// The number of the guest's next chain.
@@ -228,75 +225,71 @@ impl Acts {
         }
     }
 
-    /// Puts a chain of these frames, with room for one, before the device.
-    fn place(&mut self, guest: u16, frames: &[[u8; 512]]) -> bool {
-        self.store(guest, 0x4000, frames.as_flattened())
-            && self.store(guest, 0x1000, &descriptors(frames.len()))
-    }
-
-    /// Makes it available.
-    fn offer(&mut self, guest: u16) -> bool {
+    /// Puts a chain of these frames, with room for one, before the device, and makes it available.
+    fn place<S: Stage>(&mut self, stage: &mut S, guest: u16, frames: &[[u8; 512]]) -> bool {
         let number = self.next_chain(guest);
-        self.store(guest, 0x2004 + 2 * u64::from(number % 16), &[0, 0])
-            && self.store(guest, 0x2002, &number.wrapping_add(1).to_le_bytes())
+        let next = number.wrapping_add(1).to_le_bytes();
+        self.store(stage, guest, 0x4000, frames.as_flattened())
+            && self.store(stage, guest, 0x1000, &descriptors(frames.len()))
+            && self.store(stage, guest, 0x2004 + 2 * u64::from(number % 16), &[0, 0])
+            && self.store(stage, guest, 0x2002, &next)
     }
 
-    /// Puts a chain of this request before the device, and makes it available.
-    pub fn ask(&mut self, guest: u16, asked: Asked) -> bool {
-        let Some(frames) = frames_of(self.alloc, asked) else {
-            return false;
+    /// Puts a chain of this request before the device, and the device pops it.
+    pub fn ask<S: Stage>(&mut self, stage: &mut S, guest: u16, asked: Asked) -> bool {
+        let is_placed = match frames_of(self.alloc, asked) {
+            Some(frames) => self.place(stage, guest, &frames),
+            None => false,
         };
-        self.place(guest, &frames) && self.offer(guest)
+        is_placed && self.step(stage, Step::Pop(guest))
     }
 
-    /// The guest offers a chain of this request, and its job is answered.
-    pub fn submit(&mut self, guest: u16, asked: Asked) -> bool {
-        self.ask(guest, asked) && self.step(Step::Pop(guest)) && self.step(Step::Submit(guest))
+    fn stop<S: Stage>(&mut self, stage: &mut S, filler: u8) -> bool {
+        match filler_of(self.alloc, filler) {
+            Some(filler) => self.add(stage, Event::Stop(filler)),
+            None => false,
+        }
     }
 
-    fn hand_over(&mut self, guest: u16) -> bool {
-        self.step(Step::Take(guest)) && self.step(Step::Give(guest))
+    fn upgrade<S: Stage>(&mut self, stage: &mut S, call: u32, filler: u8) -> bool {
+        match filler_of(self.alloc, filler) {
+            Some(filler) => self.add(stage, Event::Upgrade(Some((call, filler)))),
+            None => false,
+        }
     }
 
-    fn reply(&mut self, guest: u16) -> bool {
-        self.step(Step::Collect(guest)) && self.step(Step::Publish(guest))
-    }
-
-    fn stop(&mut self, filler: u8) -> bool {
-        let Some(filler_2) = filler_of(self.alloc, filler) else {
-            return false;
-        };
-        self.add(Event::Stop(filler_2))
-    }
-
-    fn upgrade(&mut self, call: u32, filler: u8) -> bool {
-        let Some(filler) = filler_of(self.alloc, filler) else {
-            return false;
-        };
-        self.add(Event::Upgrade(Some((call, filler))))
-    }
-
-    fn make(&mut self, guest: u16, next: Move) -> bool {
+    fn make<S: Stage>(&mut self, stage: &mut S, guest: u16, next: Move) -> bool {
         match next {
-            Move::Open => self.add(Event::Open),
-            Move::SetUp => self.set_up(guest),
-            Move::Submit(asked) => self.submit(guest, asked),
-            Move::HandOver => self.hand_over(guest),
-            Move::Advances(times) => self.advances(times),
-            Move::Reply => self.reply(guest),
-            Move::FailNext => self.add(Event::Fail(1)),
-            Move::Stop(filler) => self.stop(filler),
-            Move::Upgrade(call, filler) => self.upgrade(call, filler),
+            Move::Open => self.add(stage, Event::Open),
+            Move::SetUp => self.set_up(stage, guest),
+            Move::Submit(asked) => {
+                self.ask(stage, guest, asked) && self.step(stage, Step::Submit(guest))
+            }
+            Move::HandOver => {
+                self.step(stage, Step::Take(guest)) && self.step(stage, Step::Give(guest))
+            }
+            Move::Advances(times) => self.advances(stage, times),
+            Move::Reply => {
+                self.step(stage, Step::Collect(guest)) && self.step(stage, Step::Publish(guest))
+            }
+            Move::Fail(call) => self.add(stage, Event::Fail(call)),
+            Move::Stop(filler) => self.stop(stage, filler),
+            Move::Upgrade(call, filler) => self.upgrade(stage, call, filler),
         }
     }
 
     /// Makes one move of a guest after another.
-    pub fn play(&mut self, guest: u16, moves: &[Move]) -> bool {
-        for next in moves.iter() {
-            if !self.make(guest, *next) {
+    pub fn play<S: Stage>(&mut self, stage: &mut S, guest: u16, moves: &[Move]) -> bool {
+        for next in moves {
+            if !self.make(stage, guest, *next) {
                 return false;
             }
         }
         true
+    }
+
+    /// The same; whether nothing is refused.
+    pub fn goes<S: Stage>(&mut self, stage: &mut S, guest: u16, moves: &[Move]) -> bool {
+        self.play(stage, guest, moves) && self.refusal.is_none()
     }
 }

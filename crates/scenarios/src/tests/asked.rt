@@ -1,6 +1,5 @@
 //! What a guest asks for, and the frames of it.
-
-use crate::tests::scene::{KEY, get_write_counter, program_key, result_read, write_at, write_of};
+use crate::tests::scene::{KEY, get_write_counter, program_key, result_read, write_at};
 use hmac256::mac_of;
 use rpmb_frame::Frame;
 use std::alloc::Global;
@@ -14,16 +13,11 @@ pub enum Asked {
     Write(u8, u32),
     /// The block at this address is written under this write counter.
     WriteAt(u16, u32),
-    /// So many blocks are written from this address on, the first with bytes 1, the next with
-    /// bytes 2, and so on, under the write counter 0.
-    Blocks(u16, u8),
-    /// The same under this write counter, the first with bytes 1 and 16 for each write before it.
-    BlocksUnder(u16, u8, u32),
-    /// Block 0 is written, with bytes of this kind, under this write counter, and no result is
-    /// asked for.
-    Silent(u8, u32),
+    /// So many blocks are written from this address on, under this write counter: the first with
+    /// bytes 1 and 16 for each write before it, the next with one more, and so on.
+    Blocks(u16, u8, u32),
     /// The write counter is read, under this nonce.
-    Counter(u8),
+    Counter(u128),
     /// Block 0 is read.
     Block,
     /// The result of the request before it is read.
@@ -86,12 +80,10 @@ fn listed(alloc: Global, frames: &[[u8; 512]]) -> Option<Vec<[u8; 512]>> {
 pub fn frames_of(alloc: Global, asked: Asked) -> Option<Vec<[u8; 512]>> {
     match asked {
         Asked::Key(byte) => listed(alloc, &program_key(&[byte; 32])),
-        Asked::Write(byte, counter) => listed(alloc, &write_of(byte, counter)),
-        Asked::WriteAt(address, counter) => listed(alloc, &write_at(address, counter)),
-        Asked::Blocks(address, count) => writes_of(alloc, address, count, 0),
-        Asked::BlocksUnder(address, count, counter) => writes_of(alloc, address, count, counter),
-        Asked::Silent(byte, counter) => listed(alloc, &write_of(byte, counter)[..1]),
-        Asked::Counter(nonce) => listed(alloc, &get_write_counter(u128::from(nonce))),
+        Asked::Write(byte, counter) => listed(alloc, &write_at(0, byte, counter)),
+        Asked::WriteAt(address, counter) => listed(alloc, &write_at(address, 0xb0, counter)),
+        Asked::Blocks(address, count, counter) => writes_of(alloc, address, count, counter),
+        Asked::Counter(nonce) => listed(alloc, &get_write_counter(nonce)),
         Asked::Block => listed(alloc, &[data_read()]),
         Asked::LastResult => listed(alloc, &[result_read()]),
         Asked::Zeros => listed(alloc, &[[0; 512]]),

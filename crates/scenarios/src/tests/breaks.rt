@@ -2,13 +2,9 @@
 
 use crate::tests::asked::Asked;
 use crate::tests::groups::OF_A_WRITE;
-use crate::tests::image::fresh_store;
-use crate::tests::limits::{hold_64, is_busy};
-use crate::tests::lines::{Line, fails, play, play_all};
-use crate::tests::scene::{Scene, Tail, check, scene_of};
-use disk::CutDisk;
-use flusher::Store;
-use std::alloc::Global;
+use crate::tests::lines::{Line, play_all};
+use crate::tests::scene::Tail;
+use rpmb_book::Refused;
 use std::test::Fail;
 
 /// A read before the key, the key, a write, a read and a lone request for the result, of which the
@@ -50,8 +46,9 @@ fn a_break_fails_what_is_not_settled(rt: HostRuntime) -> Result<(), Fail> {
 }
 
 /// One request of each kind, of guest 1, to a book that is broken: a failure of each, with the type
-/// of its response, and nothing where there is no room.
-static EACH_KIND: [Line; 16] = [
+/// of its response, and nothing where there is no room. Then of guest 0 as many reads as may wait: a
+/// broken book refuses a guest's job only where 64 replies of it are held.
+static EACH_KIND: [Line; 20] = [
     Line::BreakOff,
     Line::Ask(1, Asked::Key(0x11)),
     Line::Ask(1, Asked::Counter(1)),
@@ -68,37 +65,13 @@ static EACH_KIND: [Line; 16] = [
     Line::Failure(1, 1, 0x0000),
     Line::EmptyReply(1),
     Line::NoReply(1),
+    Line::AskUntaken(0, 64),
+    Line::Refuse(0, 0, 64, Refused::Busy),
+    Line::Failures(0, 64),
+    Line::NoReply(0),
 ];
-
-/// Whether each of 64 held replies to guest 0 is a failure, and there are no more.
-fn each_of_64_fails(scene: &mut Scene) -> bool {
-    for _ in 0..64 {
-        if !fails(scene, 0, 1, 0x0200) {
-            return false;
-        }
-    }
-    scene.book.collect(0).is_none()
-}
-
-/// A broken book refuses a guest's job only where 64 replies of it are held.
-fn answer_each(alloc: Global, scene: &mut Scene, store: &mut Store<CutDisk>) -> bool {
-    play(alloc, scene, store, &EACH_KIND) == EACH_KIND.len()
-        && hold_64(alloc, scene, 0)
-        && is_busy(alloc, scene, 0)
-        && each_of_64_fails(scene)
-}
-
-fn answer_each_of(alloc: Global, store: &mut Store<CutDisk>) -> bool {
-    let Some(mut scene) = scene_of(alloc, 2) else {
-        return false;
-    };
-    answer_each(alloc, &mut scene, store)
-}
 
 #[test]
 fn a_broken_book_answers_each_request(rt: HostRuntime) -> Result<(), Fail> {
-    let Some(mut store) = fresh_store(rt.alloc(), 2) else {
-        return Err(Fail::from("no store"));
-    };
-    check(answer_each_of(rt.alloc(), &mut store), "another outcome")
+    play_all(rt.alloc(), 2, &EACH_KIND)
 }

@@ -1,9 +1,10 @@
 //! What the store is given, and when replies leave.
 
 use crate::tests::asked::Asked;
+use crate::tests::desk::LIFE;
 use crate::tests::groups::{Group, OF_A_KEY, OF_A_WRITE};
 use crate::tests::lines::{Line, play_all};
-use crate::tests::scene::{LIFE, Tail};
+use crate::tests::scene::Tail;
 use std::test::Fail;
 
 /// Guest 1 reads the counter, programs its key, writes and reads the counter once more. What it
@@ -59,7 +60,7 @@ static WHOLE: [&[Line]; 3] = [
             intent: OF_A_KEY,
         },
         Line::Run,
-        Line::Ask(0, Asked::Blocks(496, 16)),
+        Line::Ask(0, Asked::Blocks(496, 16, 0)),
         Line::GiveThis {
             guest: 0,
             intent: Group {
@@ -79,7 +80,7 @@ static WHOLE: [&[Line]; 3] = [
             intent: OF_A_KEY,
         },
         Line::Run,
-        Line::Ask(0, Asked::Blocks(511, 1)),
+        Line::Ask(0, Asked::Blocks(511, 1, 0)),
         Line::GiveThis {
             guest: 0,
             intent: Group {
@@ -93,7 +94,7 @@ static WHOLE: [&[Line]; 3] = [
     ],
     &[
         Line::Ask(0, Asked::Key(0x11)),
-        Line::Ask(0, Asked::Blocks(511, 2)),
+        Line::Ask(0, Asked::Blocks(511, 2, 0)),
         Line::GiveThis {
             guest: 0,
             intent: OF_A_KEY,

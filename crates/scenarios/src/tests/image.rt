@@ -1,113 +1,88 @@
-//! Images of a board, what opens from them, and what a store is given.
-
-use crate::tests::scene::{Scene, board_of};
+//! Fresh images of a board, on a disk that held something else.
+use crate::tests::scene::KEY;
 use disk::{CutDisk, Disk};
-use flusher::{Made, Store};
-use intent_slots::{Intent, Layout};
-use recovery::{format, format2, open};
-use rpmb_core::Partition;
+use intent_slots::{Home, Layout};
+use recovery::{format, format2};
 use rpmb_frame::BoardConfig;
 use std::alloc::Global;
-use std::test::Fail;
 
-/// The version of an image.
+/// A fresh image.
 #[derive(Clone, Copy)]
-pub enum Version {
-    /// One slot of each partition is in use.
+pub enum Image {
+    /// Of version 1: one slot of each partition is in use.
     One,
-    /// Both are.
+    /// Of version 2: both are.
     Two,
+    /// Of version 1, with open gates and other bytes in the second slots of two guests, which it
+    /// never looks at.
+    Spoiled,
+    /// Of version 1, but for the home of guest 0, which says that one more write may come.
+    Last,
 }
 
-/// A disk as long as the image of a board, which holds something else.
-fn other_disk(alloc: Global, board: &BoardConfig) -> Option<CutDisk> {
-    let length = Layout::of(board).length();
-    let Ok(bytes) = vec![in alloc; 0xee; length as usize] else {
-        return None;
-    };
-    CutDisk::new(alloc, bytes).ok()
+/// Where the second gates of two partitions of capacity 1 stand, which are 35,328 and 131,072 bytes
+/// long each and begin at 1,024.
+static SECOND_GATES: [u64; 2] = [18_944, 185_344];
+
+/// The last counter but one.
+const COUNTER: u32 = 0xffff_fffe;
+
+fn puts(disk: &mut CutDisk, at: u64, bytes: &[u8]) -> bool {
+    if at > disk.len() || bytes.len() as u64 > disk.len() - at {
+        return false;
+    }
+    disk.write_at(at, bytes).is_ok()
 }
 
-/// Makes a fresh image of a disk of its length.
-fn make_image(disk: &mut CutDisk, board: &BoardConfig, version: Version) -> bool {
+fn spoils(disk: &mut CutDisk) -> bool {
+    for gate in &SECOND_GATES {
+        if !puts(disk, *gate, &[0xa5; 600]) {
+            return false;
+        }
+    }
+    disk.sync().is_ok()
+}
+
+fn puts_home(disk: &mut CutDisk, board: &BoardConfig) -> bool {
+    let layout = Layout::of(board);
+    if layout.guests() == 0 {
+        return false;
+    }
+    let home = layout.extent(0).home();
+    puts(disk, home, &Home::with_key(KEY, COUNTER).encode()) && disk.sync().is_ok()
+}
+
+/// Formats a disk of the image's length.
+fn formats(disk: &mut CutDisk, board: &BoardConfig, image: Image) -> bool {
     if disk.len() != Layout::of(board).length() {
         return false;
     }
-    match version {
-        Version::One => format(disk, board).is_ok(),
-        Version::Two => format2(disk, board).is_ok(),
+    match image {
+        Image::Two => format2(disk, board).is_ok(),
+        _ => format(disk, board).is_ok(),
     }
 }
 
-/// A fresh image of a version, on a disk that held something else.
-pub fn formatted_as(alloc: Global, board: &BoardConfig, version: Version) -> Option<CutDisk> {
-    let Some(mut disk) = other_disk(alloc, board) else {
-        return None;
-    };
-    if !make_image(&mut disk, board, version) {
-        return None;
-    }
-    Some(disk)
-}
-
-/// The same of version 1.
-pub fn formatted(alloc: Global, board: &BoardConfig) -> Option<CutDisk> {
-    formatted_as(alloc, board, Version::One)
-}
-
-/// What a disk opens to: the store, and the guests' partitions.
-pub fn opened<D: Disk>(
-    alloc: Global,
-    disk: D,
-    board: &BoardConfig,
-) -> Option<(Store<D>, Vec<Partition>)> {
-    open(alloc, disk, board).ok()
-}
-
-/// The store of a fresh image of so many guests.
-pub fn fresh_store(alloc: Global, guests: usize) -> Option<Store<CutDisk>> {
-    let Some(board) = board_of(alloc, guests) else {
-        return None;
-    };
-    store_on(alloc, &board)
-}
-
-fn store_on(alloc: Global, board: &BoardConfig) -> Option<Store<CutDisk>> {
-    let Some(disk) = formatted(alloc, board) else {
-        return None;
-    };
-    let Some((store, _)) = opened(alloc, disk, board) else {
-        return None;
-    };
-    Some(store)
-}
-
-/// Gives an intent to the store, which has to be one that it may be given.
-pub fn give(store: &mut Store<CutDisk>, intent: Intent) -> bool {
-    if !store.takes(&intent) {
-        return false;
-    }
-    store.give(intent);
-    true
-}
-
-/// Has the store make its calls, until it is idle.
-pub fn settle(store: &mut Store<CutDisk>) -> bool {
-    for _ in 0..100_u8 {
-        match store.advance() {
-            Ok(Made::Idle) => return true,
-            Ok(_) => {}
-            Err(_) => return false,
+fn makes(disk: &mut CutDisk, board: &BoardConfig, image: Image) -> bool {
+    formats(disk, board, image)
+        && match image {
+            Image::Spoiled => spoils(disk),
+            Image::Last => puts_home(disk, board),
+            _ => true,
         }
-    }
-    false
 }
 
-/// Has the store keep a guest's next intent; whether one waited.
-pub fn keep_next(scene: &mut Scene, store: &mut Store<CutDisk>, guest: u16) -> Option<bool> {
-    match scene.book.take(&mut scene.shares, guest) {
-        Ok(Some(intent)) => (give(store, intent) && settle(store)).then_some(true),
-        Ok(None) => Some(false),
-        Err(_) => None,
+/// A disk with this image.
+pub fn image_of(alloc: Global, board: &BoardConfig, image: Image) -> Option<CutDisk> {
+    let Ok(bytes) = vec![in alloc; 0xee; Layout::of(board).length() as usize] else {
+        return None;
+    };
+    let Ok(mut disk) = CutDisk::new(alloc, bytes) else {
+        return None;
+    };
+    if makes(&mut disk, board, image) {
+        Some(disk)
+    } else {
+        None
     }
 }

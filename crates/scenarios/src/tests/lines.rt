@@ -1,16 +1,10 @@
 //! Scenes as tables: what is asked of a book and its store, line by line, and what is seen then.
-
-use crate::tests::asked::{Asked, frames_of};
-use crate::tests::groups::{Group, group_of};
-use crate::tests::image::{fresh_store, keep_next, settle};
-use crate::tests::scene::{
-    KEY, Scene, Tail, get_write_counter, has_tail, job_of, nonce_of, result_read, scene_of,
-    write_of,
-};
-use disk::CutDisk;
-use flusher::Store;
-use intent_slots::Intent;
-use mmio_transport::{Done, Job};
+use crate::tests::asked::Asked;
+use crate::tests::clerk::{Answers, Scene, Wanted};
+use crate::tests::desk::{Desk, Given, desk_of};
+use crate::tests::groups::Group;
+use crate::tests::scene::Tail;
+use rpmb_book::Refused;
 use std::alloc::Global;
 use std::test::Fail;
 
@@ -23,10 +17,24 @@ pub enum Line {
     AskNext(u16, Asked),
     /// The book accepts a guest's request for the result, in a chain that has no room for a reply.
     AskWithoutRoom(u16),
+    /// A guest reads its counter under this nonce, and its receipt is held.
+    AskHeld(u16, u128),
+    /// A guest reads its counter so often, under the nonces 0, 1, .., and takes no reply.
+    AskUntaken(u16, u32),
+    /// Sixty-four guests read their counters in turn, under the nonces 0, 1, .., so often in all;
+    /// the receipts are of these turns.
+    AskInTurn(u16),
+    /// A guest's read under this nonce is offered with the tally of another one. It is refused for
+    /// this reason, and given back as it was offered.
+    Refuse(u16, u16, u128, Refused),
+    /// What was given back is accepted of this guest, and is this turn.
+    AskAgain(u16, u128),
     /// A guest reads its counter so often, each time after the reply before has left.
     Reads(u16, u32),
     /// The same of a book that is broken: each reply is a failure.
     FailedReads(u16, u32),
+    /// Guest 0 makes these reads, each under its number.
+    Answer(Answers),
     /// A guest with its key writes block 0 under the counters from this one on, so often. Each
     /// write goes to the store and is settled, and its reply leaves, before the next.
     Writes(u16, u32, u32),
@@ -36,6 +44,8 @@ pub enum Line {
     GiveThis { guest: u16, intent: Group },
     /// No intent of the guest waits.
     NoIntent(u16),
+    /// The book has no such guest.
+    NoGuest(u16),
     /// The store makes its calls, until it is idle.
     Run,
     /// Up to which sequence the store has what it was given by the guest.
@@ -50,6 +60,8 @@ pub enum Line {
     Holds(u16, u8),
     /// How many requests the book has answered.
     Turns(u64),
+    /// How many of them its guest's tally counts.
+    Tally(u16, u64),
     /// The book learns that its store broke.
     BreakOff,
     /// Whether it has learnt that.
@@ -58,271 +70,111 @@ pub enum Line {
     Life(u64),
     /// The guest's next reply, of this session, has this need and this end.
     Reply(u16, u64, u64, Tail),
+    /// It is to a read under this nonce.
+    ReadReply(u16, u128),
     /// It is a failure in the first session, with need 0: zeros but for this result and type.
     Failure(u16, u16, u16),
-    /// It has no bytes.
+    /// So many of a guest's replies are those of reads that failed.
+    Failures(u16, u32),
+    /// The guest's next reply has no bytes.
     EmptyReply(u16),
     /// No reply to the guest leaves.
     NoReply(u16),
+    /// The receipt that is held finds its request, which has this nonce.
+    HeldIsFound(u128),
+    /// It finds nothing.
+    HeldIsGone,
+    /// The receipts of these reads find their turns, but for those of reads before this one.
+    AreFound(Answers, u32),
+    /// As many receipts of the sixty-four guests in turn find theirs.
+    AreFoundInTurn(u16),
 }
 
-fn ask(alloc: Global, scene: &mut Scene, guest: u16, session: u64, asked: Asked) -> bool {
-    match frames_of(alloc, asked) {
-        Some(frames) => ask_frames(alloc, scene, guest, session, &frames),
-        None => false,
-    }
-}
-
-fn ask_frames(
-    alloc: Global,
-    scene: &mut Scene,
-    guest: u16,
-    session: u64,
-    frames: &[[u8; 512]],
-) -> bool {
-    match job_of(alloc, guest, session, frames) {
-        Some(job) => scene.offer(alloc, job).is_ok(),
-        None => false,
-    }
-}
-
-fn ask_without_room(alloc: Global, scene: &mut Scene, guest: u16) -> bool {
-    let Ok(request) = result_read().to_vec(alloc) else {
-        return false;
-    };
-    let job = Job::of(alloc, guest, 1, 5, 3, Vec::new(alloc), request);
-    scene.offer(alloc, job).is_ok()
-}
-
-/// Whether the guest's next reply is to a read under this nonce.
-fn is_read(scene: &mut Scene, guest: u16, nonce: u128) -> bool {
-    match scene.book.collect(guest) {
-        Some(done) => nonce_of(done.reply()) == Some(nonce.to_be_bytes().as_slice()),
-        None => false,
-    }
-}
-
-/// A guest reads its counter under this nonce, and the reply leaves: a failure where the book is
-/// broken.
-fn read(alloc: Global, scene: &mut Scene, guest: u16, nonce: u128, broken: bool) -> bool {
-    ask_frames(alloc, scene, guest, 1, &get_write_counter(nonce))
-        && if broken {
-            fails(scene, guest, 1, 0x0200)
-        } else {
-            is_read(scene, guest, nonce)
-        }
-}
-
-fn read_all(alloc: Global, scene: &mut Scene, guest: u16, count: u32, broken: bool) -> bool {
-    for number in 0..count {
-        if !read(alloc, scene, guest, u128::from(number), broken) {
-            return false;
+impl<D: Desk> Scene<D> {
+    /// Whether a line that looks happens as it is told.
+    fn is_seen(&mut self, line: Line) -> bool {
+        match line {
+            Line::Mark(guest, sequence) => self.desk.mark(guest) == sequence,
+            Line::Settled(guest, sequence) => self.desk.settled(guest) == Some(sequence),
+            Line::Counter(guest, counter) => self.has_counter(guest, counter),
+            Line::Holds(guest, byte) => self.holds(guest, byte),
+            Line::Turns(count) => self.desk.turns() == count,
+            Line::Tally(guest, count) => self.desk.count(guest) == Some(count),
+            Line::IsBroken(is_broken) => self.desk.is_broken() == is_broken,
+            Line::Life(life) => self.desk.life() == life,
+            Line::Reply(guest, session, need, tail) => {
+                self.replies(guest, Wanted::Ends(session, need, tail))
+            }
+            Line::ReadReply(guest, nonce) => self.replies(guest, Wanted::Nonce(nonce)),
+            Line::Failure(guest, code, kind) => self.replies(guest, Wanted::Failure(code, kind)),
+            Line::Failures(guest, count) => self.fails_so_often(guest, count),
+            Line::EmptyReply(guest) => self.replies(guest, Wanted::Empty),
+            Line::NoReply(guest) => self.desk.collect(guest).is_none(),
+            Line::HeldIsFound(nonce) => self.finds(&self.held, nonce) == Some(true),
+            Line::HeldIsGone => self.desk.find(&self.held).is_none(),
+            Line::AreFound(answers, folded) => self.finds_all(answers, folded),
+            Line::AreFoundInTurn(count) => self.finds_in_turn(count),
+            _ => false,
         }
     }
-    true
-}
 
-/// A guest's write under this counter is kept by the store, and its reply leaves.
-fn write(
-    alloc: Global,
-    scene: &mut Scene,
-    store: &mut Store<CutDisk>,
-    guest: u16,
-    counter: u32,
-) -> bool {
-    let frames = write_of((counter % 256) as u8, counter);
-    ask_frames(alloc, scene, guest, 1, &frames)
-        && keep_next(scene, store, guest) == Some(true)
-        && scene.settles(store.marks())
-        && writes_reply(scene, guest, counter)
-}
-
-/// Whether the guest's next reply is to a write under this counter.
-fn writes_reply(scene: &mut Scene, guest: u16, counter: u32) -> bool {
-    let tail = Tail(counter.wrapping_add(1), 0, 1, 0, 0x0300);
-    match scene.book.collect(guest) {
-        Some(done) => has_tail(done.reply(), tail),
-        None => false,
-    }
-}
-
-fn write_all(
-    alloc: Global,
-    scene: &mut Scene,
-    store: &mut Store<CutDisk>,
-    guest: u16,
-    first: u32,
-    count: u32,
-) -> bool {
-    for number in 0..count {
-        if !write(alloc, scene, store, guest, first.wrapping_add(number)) {
-            return false;
+    /// Whether a line that gives an intent to the store happens as it is told.
+    fn is_kept(&mut self, line: Line) -> bool {
+        match line {
+            Line::Give(guest) => self.gives(guest, None),
+            Line::GiveThis { guest, intent } => self.gives(guest, Some(intent)),
+            Line::NoIntent(guest) => matches!(self.desk.give(guest, None), Given::Nothing),
+            Line::NoGuest(guest) => matches!(self.desk.give(guest, None), Given::Refused),
+            Line::Run => self.desk.run(),
+            Line::Settle => self.desk.settle(),
+            Line::BreakOff => {
+                self.desk.break_off();
+                true
+            }
+            _ => self.is_seen(line),
         }
     }
-    true
-}
 
-/// Whether it is the guest's intent, under the key, and this one where one is told.
-fn is_intent(intent: &Intent, guest: u16, wanted: Option<Group>) -> bool {
-    match wanted {
-        Some(wanted) => {
-            intent.guest() == guest && intent.key() == &KEY && group_of(intent) == wanted
-        }
-        None => true,
-    }
-}
-
-/// The guest's next intent, where it is the one that is told.
-fn taken(scene: &mut Scene, guest: u16, wanted: Option<Group>) -> Option<Intent> {
-    match scene.book.take(&mut scene.shares, guest) {
-        Ok(Some(intent)) if is_intent(&intent, guest, wanted) => Some(intent),
-        _ => None,
-    }
-}
-
-/// Gives an intent to the store, where it may be given.
-fn gives(store: &mut Store<CutDisk>, intent: Intent) -> bool {
-    if !store.takes(&intent) {
-        return false;
-    }
-    store.give(intent);
-    true
-}
-
-fn hand_over(
-    scene: &mut Scene,
-    store: &mut Store<CutDisk>,
-    guest: u16,
-    wanted: Option<Group>,
-) -> bool {
-    match taken(scene, guest, wanted) {
-        Some(intent) => gives(store, intent),
-        None => false,
-    }
-}
-
-fn has_no_intent(scene: &mut Scene, guest: u16) -> bool {
-    matches!(scene.book.take(&mut scene.shares, guest), Ok(None))
-}
-
-pub fn has_no_reply(scene: &mut Scene, guest: u16) -> bool {
-    scene.book.collect(guest).is_none()
-}
-
-fn is_settled(scene: &Scene, guest: u16, sequence: u64) -> bool {
-    scene.book.settled(guest) == Some(sequence)
-}
-
-fn has_counter(scene: &Scene, guest: u16, counter: u32) -> bool {
-    match scene.book.partition(guest) {
-        Some(partition) => partition.counter() == counter,
-        None => false,
-    }
-}
-
-fn holds(scene: &Scene, guest: u16, byte: u8) -> bool {
-    match scene.book.partition(guest) {
-        Some(partition) => partition.block(0) == [byte; 256],
-        None => false,
-    }
-}
-
-fn break_off(scene: &mut Scene) -> bool {
-    scene.book.break_off();
-    true
-}
-
-/// Whether it answers a request of this guest and session, with the id and the need that are told.
-fn is_answer(done: &Done, guest: u16, session: u64, need: u64) -> bool {
-    let ticket = done.ticket();
-    (ticket.guest, ticket.session, ticket.id, done.need()) == (guest, session, 5, need)
-}
-
-fn replies(scene: &mut Scene, guest: u16, session: u64, need: u64, tail: Tail) -> bool {
-    match scene.book.collect(guest) {
-        Some(done) => is_answer(&done, guest, session, need) && has_tail(done.reply(), tail),
-        None => false,
-    }
-}
-
-/// The bytes of a failure: zeros but for its result and its type.
-fn failure_of(code: u16, kind: u16) -> [u8; 512] {
-    let mut bytes = [0; 512];
-    bytes[500..].copy_from_slice(&Tail(0, 0, 0, code, kind).bytes());
-    bytes
-}
-
-fn is_failure(done: &Done, guest: u16, code: u16, kind: u16) -> bool {
-    is_answer(done, guest, 1, 0) && done.reply() == failure_of(code, kind).as_slice()
-}
-
-/// Whether the guest's next reply is a failure of this result and type.
-pub fn fails(scene: &mut Scene, guest: u16, code: u16, kind: u16) -> bool {
-    match scene.book.collect(guest) {
-        Some(done) => is_failure(&done, guest, code, kind),
-        None => false,
-    }
-}
-
-fn replies_nothing(scene: &mut Scene, guest: u16) -> bool {
-    match scene.book.collect(guest) {
-        Some(done) => done.reply().is_empty(),
-        None => false,
-    }
-}
-
-/// Whether a line happens as it is told.
-fn happens(alloc: Global, scene: &mut Scene, store: &mut Store<CutDisk>, line: Line) -> bool {
-    match line {
-        Line::Ask(guest, asked) => ask(alloc, scene, guest, 1, asked),
-        Line::AskNext(guest, asked) => ask(alloc, scene, guest, 2, asked),
-        Line::AskWithoutRoom(guest) => ask_without_room(alloc, scene, guest),
-        Line::Reads(guest, count) => read_all(alloc, scene, guest, count, false),
-        Line::FailedReads(guest, count) => read_all(alloc, scene, guest, count, true),
-        Line::Writes(guest, first, count) => write_all(alloc, scene, store, guest, first, count),
-        Line::Run => settle(store),
-        Line::Give(guest) => hand_over(scene, store, guest, None),
-        Line::GiveThis { guest, intent } => hand_over(scene, store, guest, Some(intent)),
-        Line::NoIntent(guest) => has_no_intent(scene, guest),
-        Line::Mark(guest, sequence) => store.marks().get(guest) == sequence,
-        Line::Settle => scene.settles(store.marks()),
-        Line::Settled(guest, sequence) => is_settled(scene, guest, sequence),
-        Line::Counter(guest, counter) => has_counter(scene, guest, counter),
-        Line::Holds(guest, byte) => holds(scene, guest, byte),
-        Line::Turns(count) => scene.book.submit_turns() == count,
-        Line::BreakOff => break_off(scene),
-        Line::IsBroken(broken) => scene.book.is_broken() == broken,
-        Line::Life(life) => scene.book.life() == life,
-        Line::Reply(guest, session, need, tail) => replies(scene, guest, session, need, tail),
-        Line::Failure(guest, code, kind) => fails(scene, guest, code, kind),
-        Line::EmptyReply(guest) => replies_nothing(scene, guest),
-        Line::NoReply(guest) => has_no_reply(scene, guest),
-    }
-}
-
-/// How many lines of a scene happen as they are told, from the first on.
-pub fn play(alloc: Global, scene: &mut Scene, store: &mut Store<CutDisk>, lines: &[Line]) -> usize {
-    for (number, line) in lines.iter().enumerate() {
-        if !happens(alloc, scene, store, *line) {
-            return number;
+    /// Whether a line happens as it is told.
+    fn happens(&mut self, line: Line) -> bool {
+        match line {
+            Line::Ask(guest, asked) => self.ask(guest, 1, asked),
+            Line::AskNext(guest, asked) => self.ask(guest, 2, asked),
+            Line::AskWithoutRoom(guest) => self.asks_without_room(guest),
+            Line::AskHeld(guest, nonce) => self.asks_held(guest, nonce),
+            Line::AskUntaken(guest, count) => self.asks_untaken(guest, count),
+            Line::AskInTurn(count) => self.asks_in_turn(count),
+            Line::Refuse(tally, guest, nonce, why) => self.refuses(tally, guest, nonce, why),
+            Line::AskAgain(guest, number) => self.asks_again(guest, number),
+            Line::Reads(guest, count) => self.reads(guest, count, false),
+            Line::FailedReads(guest, count) => self.reads(guest, count, true),
+            Line::Answer(answers) => self.answers(answers),
+            Line::Writes(guest, first, count) => self.writes_all(guest, first, count),
+            _ => self.is_kept(line),
         }
     }
-    lines.len()
+
+    /// How many lines happen as they are told, from the first on.
+    fn play(&mut self, lines: &[Line]) -> usize {
+        for (number, line) in lines.iter().enumerate() {
+            if !self.happens(*line) {
+                return number;
+            }
+        }
+        lines.len()
+    }
 }
 
-fn play_on(alloc: Global, guests: usize, scene: &mut Scene, lines: &[Line]) -> Option<usize> {
-    let Some(mut store) = fresh_store(alloc, guests) else {
-        return None;
-    };
-    Some(play(alloc, scene, &mut store, lines))
-}
-
-/// The same of a scene of its own, with so many guests.
+/// How many lines of a scene of its own happen, with so many guests. A desk is held here alone,
+/// since its drop is dear to prove.
 fn played(alloc: Global, guests: usize, lines: &[Line]) -> Option<usize> {
-    let Some(mut scene) = scene_of(alloc, guests) else {
-        return None;
-    };
-    play_on(alloc, guests, &mut scene, lines)
+    match desk_of(alloc, guests) {
+        Some(desk) => {
+            let mut scene = Scene::new(alloc, desk);
+            Some(scene.play(lines))
+        }
+        None => None,
+    }
 }
 
 /// Plays a scene of its own, with so many guests, whose lines all have to happen as they are told.

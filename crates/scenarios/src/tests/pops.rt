@@ -1,13 +1,13 @@
 //! The pops that a world notes.
-
 use crate::tests::acts::{Acts, Move};
 use crate::tests::asked::Asked;
-use crate::tests::image::Version;
+use crate::tests::image::Image;
+use crate::tests::lives::{Lives, Tale, is_told};
 use crate::tests::scene::check;
-use crate::tests::worlds::{KEYED, world_of};
+use crate::tests::worlds::KEYED;
 use std::alloc::Global;
 use std::test::Fail;
-use world::{Event, Pop, Publication, World};
+use world::{Pop, Publication};
 
 /// A second life, in which two requests are answered, each before the next.
 static SECOND_LIFE: [Move; 6] = [
@@ -24,44 +24,41 @@ static SECOND_LIFE: [Move; 6] = [
 static TOLD: [(u64, u64, u64); 3] = [(1, 1, 1), (2, 1, 1), (2, 1, 2)];
 
 fn are_told(popped: &[Pop]) -> bool {
-    if popped.len() != TOLD.len() {
-        return false;
-    }
-    for (place, pop) in popped.iter().enumerate() {
-        if TOLD.get(place) != Some(&(pop.life, pop.readiness, pop.number)) {
+    for (told, pop) in TOLD.iter().zip(popped.iter()) {
+        if *told != (pop.life, pop.readiness, pop.number) {
             return false;
         }
     }
-    true
+    popped.len() == TOLD.len()
 }
 
 /// Each reply tells the pop of its job, and they are in one order.
 fn are_of(published: &[Publication], popped: &[Pop]) -> bool {
-    if published.len() != popped.len() {
-        return false;
-    }
-    for (place, publication) in published.iter().enumerate() {
-        if popped.get(place) != Some(&publication.pop) {
+    for (publication, pop) in published.iter().zip(popped.iter()) {
+        if publication.pop != *pop {
             return false;
         }
     }
-    true
+    published.len() == popped.len()
 }
 
-fn check_told(world: &mut World, events: &[Event]) -> bool {
-    world.run(events).is_none()
-        && are_told(world.popped(0))
-        && are_of(world.published(0), world.popped(0))
+#[derive(Clone, Copy)]
+struct TwoLives;
+
+impl Tale for TwoLives {
+    fn is_so<W: Lives>(&self, alloc: Global, world: &mut W) -> bool {
+        let mut acts = Acts::new(alloc, None, 0);
+        acts.goes(world, 0, &KEYED)
+            && acts.goes(world, 0, &SECOND_LIFE)
+            && are_told(world.popped_of(0))
+            && are_of(world.published_to(0), world.popped_of(0))
+    }
 }
 
 #[test]
 fn replies_tell_their_pops(rt: HostRuntime) -> Result<(), Fail> {
-    let mut acts = Acts::new(rt.alloc(), None, 0);
-    let Some(mut world) = world_of(rt.alloc(), 1, Version::One) else {
-        return Err(Fail::from("no world"));
-    };
     check(
-        acts.play(0, &KEYED) && acts.play(0, &SECOND_LIFE) && check_told(&mut world, &acts.events),
+        is_told(rt.alloc(), 1, Image::One, &TwoLives),
         "another outcome",
     )
 }

@@ -1,11 +1,10 @@
 //! Whether a guest has the partition after what was accepted of it, which holds what it was shown.
-
+use crate::tests::lives::Lives;
 use crate::tests::scene::board_of;
 use rpmb_core::{OK, Partition, is_change};
 use rpmb_frame::{Limits, Request};
 use std::alloc::Global;
-use std::test::Fail;
-use world::{Accepted, Publication, World};
+use world::{Accepted, Publication};
 
 /// The limits of each guest.
 fn limits(alloc: Global) -> Option<Limits> {
@@ -33,26 +32,6 @@ fn replay(partition: &mut Partition, requests: &[Accepted], limits: Limits) {
     }
 }
 
-/// A copy of a guest's base.
-fn base(alloc: Global, world: &World, guest: u16) -> Option<Partition> {
-    match world.base(guest) {
-        Some(base) => base.copy(alloc).ok(),
-        None => None,
-    }
-}
-
-/// A guest's base after all that was accepted.
-fn replayed(alloc: Global, world: &World, guest: u16) -> Option<Partition> {
-    let Some(limits) = limits(alloc) else {
-        return None;
-    };
-    let Some(mut partition) = base(alloc, world, guest) else {
-        return None;
-    };
-    replay(&mut partition, world.accepted(guest), limits);
-    Some(partition)
-}
-
 fn is_same(one: &Partition, other: &Partition) -> bool {
     for address in 0..512_u16 {
         if one.block(address) != other.block(address) {
@@ -62,11 +41,20 @@ fn is_same(one: &Partition, other: &Partition) -> bool {
     one.key() == other.key() && one.counter() == other.counter()
 }
 
-/// Whether it is the guest's partition.
-fn is_now(world: &World, guest: u16, after: &Partition) -> bool {
-    match world.partition(guest) {
-        Some(now) => is_same(now, after),
-        None => false,
+/// Whether this is what a base becomes, after all that was accepted.
+fn is_after(
+    alloc: Global,
+    now: &Partition,
+    base: &Partition,
+    requests: &[Accepted],
+    limits: Limits,
+) -> bool {
+    match base.copy(alloc) {
+        Ok(mut partition) => {
+            replay(&mut partition, requests, limits);
+            is_same(now, &partition)
+        }
+        Err(_) => false,
     }
 }
 
@@ -80,26 +68,27 @@ fn need_at_most(publications: &[Publication], accepted: u64) -> bool {
     true
 }
 
-fn check_guest(alloc: Global, world: &World, guest: u16) -> bool {
-    if !need_at_most(world.published(guest), world.accepted(guest).len() as u64) {
-        return false;
+fn check_guest<W: Lives>(alloc: Global, world: &W, guest: u16, limits: Limits) -> bool {
+    let accepted = world.accepted_of(guest);
+    match (world.partition_of(guest), world.base_of(guest)) {
+        (Some(now), Some(base)) => {
+            need_at_most(world.published_to(guest), accepted.len() as u64)
+                && is_after(alloc, now, base, accepted, limits)
+        }
+        _ => false,
     }
-    let Some(after) = replayed(alloc, world, guest) else {
-        return false;
-    };
-    is_now(world, guest, &after)
 }
 
 /// After so many openings each of so many guests has the partition after what was accepted of it,
 /// which holds what its replies needed.
-pub fn check_guests(alloc: Global, world: &World, guests: u16, openings: u64) -> bool {
-    if world.openings() != openings {
+pub fn check_guests<W: Lives>(alloc: Global, world: &W, guests: u16, openings: u64) -> bool {
+    let Some(limits) = limits(alloc) else {
         return false;
-    }
+    };
     for guest in 0..guests {
-        if !check_guest(alloc, world, guest) {
+        if !check_guest(alloc, world, guest, limits) {
             return false;
         }
     }
-    true
+    world.opened() == openings
 }

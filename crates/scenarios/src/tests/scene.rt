@@ -1,28 +1,12 @@
-//! A book on fresh partitions of 512 blocks, and the requests that scenes make.
-ghost use Rattle.std.specs.Prelude.{◌≡◌, IfSome, map};
-
+//! Boards of guests that are all alike, and the requests that scenes make.
 use chains::Range;
-use flusher::Marks;
 use hmac256::mac_of;
 use mmio_transport::Job;
-use rpmb_book::{Book, Receipt, Refused, Shares, Tally};
-use rpmb_core::Partition;
 use rpmb_frame::{BoardConfig, Frame, GuestConfig};
 use std::alloc::Global;
 use std::test::Fail;
 
 pub const KEY: [u8; 32] = [0x11; 32];
-
-/// The life that scenes open their book with.
-pub const LIFE: u64 = 7;
-
-/// A book, with what those hold that call it.
-#[derive(Drop)]
-pub struct Scene {
-    pub book: Book,
-    pub tallies: Vec<Tally>,
-    pub shares: Shares,
-}
 
 /// A board of guests that are all alike.
 pub fn board_of(alloc: Global, guests: usize) -> Option<BoardConfig> {
@@ -33,72 +17,6 @@ pub fn board_of(alloc: Global, guests: usize) -> Option<BoardConfig> {
         }
     }
     BoardConfig::new(configs).ok()
-}
-
-/// A partition for each guest of the board, without a key and with blocks of zeros.
-fn fresh_partitions(alloc: Global, board: &BoardConfig) -> Option<Vec<Partition>>
-    ensures { IfSome result (λ v. map (λ p. p.capacity) v.items ≡ map (λ g. g.capacity) board.now) }
-{
-    let mut partitions = Vec::new(alloc);
-    for guest in board.guests() {
-        let Ok(partition) = Partition::new(alloc, guest.capacity) else {
-            return None;
-        };
-        if partitions.push(partition).is_err() {
-            return None;
-        }
-    }
-    Some(partitions)
-}
-
-fn scene_on(alloc: Global, board: &BoardConfig) -> Option<Scene> {
-    let Some(partitions) = fresh_partitions(alloc, board) else {
-        return None;
-    };
-    let Ok((book, tallies, shares)) = Book::open(alloc, LIFE, board, partitions) else {
-        return None;
-    };
-    Some(Scene {
-        book,
-        tallies,
-        shares,
-    })
-}
-
-/// The scene at its opening, with so many guests.
-pub fn scene_of(alloc: Global, guests: usize) -> Option<Scene> {
-    let Some(board) = board_of(alloc, guests) else {
-        return None;
-    };
-    scene_on(alloc, &board)
-}
-
-impl Scene {
-    /// Offers the book a job, with the tally of its guest.
-    pub fn offer(&mut self, alloc: Global, job: Job) -> Result<Receipt, (Job, Refused)> {
-        match self.tallies.get_mut(usize::from(job.ticket().guest)) {
-            Some(tally) => self.book.submit(alloc, tally, job),
-            None => Err((job, Refused::Foreign)),
-        }
-    }
-
-    /// Settles the book to the marks of a store; whether they are its own.
-    pub fn settles(&mut self, marks: Marks) -> bool {
-        self.book.settle(&self.shares, marks) == Ok(())
-    }
-
-    /// Has the book answer a request of these frames, in the guest's first session.
-    pub fn submit(&mut self, alloc: Global, guest: u16, frames: &[[u8; 512]]) -> Option<Receipt> {
-        let Some(job) = job_of(alloc, guest, 1, frames) else {
-            return None;
-        };
-        accepted(self.offer(alloc, job))
-    }
-}
-
-/// The receipt of a job that is to be answered.
-pub fn accepted(offered: Result<Receipt, (Job, Refused)>) -> Option<Receipt> {
-    offered.ok()
 }
 
 pub fn check(holds: bool, what: &'static str) -> Result<(), Fail> {
@@ -139,28 +57,14 @@ pub fn get_write_counter(nonce: u128) -> [[u8; 512]; 1] {
     [frame.to_bytes()]
 }
 
-/// The frames that write one block of this byte at address 0 and ask for the result.
-pub fn write_of(byte: u8, counter: u32) -> [[u8; 512]; 2] {
-    sealed(
-        Frame::zeros()
-            .with_block_data(&[byte; 256])
-            .with_write_counter(counter),
-    )
-}
-
-/// The frames that write the block at an address, and ask for the result.
-pub fn write_at(address: u16, counter: u32) -> [[u8; 512]; 2] {
-    sealed(
-        Frame::zeros()
-            .with_block_data(&[0xb0; 256])
-            .with_write_counter(counter)
-            .with_address(address),
-    )
-}
-
-/// The write of one block with the MAC of its frame, and a request for the result.
-fn sealed(frame: Frame) -> [[u8; 512]; 2] {
-    let frame = frame.with_block_count(1).with_req_resp(0x0003);
+/// The frames that write a block of this byte at an address and ask for the result.
+pub fn write_at(address: u16, byte: u8, counter: u32) -> [[u8; 512]; 2] {
+    let frame = Frame::zeros()
+        .with_block_data(&[byte; 256])
+        .with_write_counter(counter)
+        .with_address(address)
+        .with_block_count(1)
+        .with_req_resp(0x0003);
     let mac = mac_of(&KEY, &[frame.to_bytes()]);
     [frame.with_key_mac(&mac).to_bytes(), result_read()]
 }

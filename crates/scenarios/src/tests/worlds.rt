@@ -1,124 +1,133 @@
 //! Worlds: boards through steps, stops and openings.
-
 use crate::tests::acts::{Acts, Move};
 use crate::tests::asked::Asked;
-use crate::tests::image::{Version, formatted_as};
-use crate::tests::scene::{board_of, check};
+use crate::tests::image::Image;
+use crate::tests::lives::{Lives, Tale, is_told};
+use crate::tests::scene::check;
 use board::StepFault;
 use flusher::StoreFault;
-use rpmb_core::Partition;
-use rpmb_frame::BoardConfig;
 use std::alloc::Global;
 use std::test::Fail;
-use world::{Event, Publication, Refusal, World};
+use world::{Publication, Refusal};
 
-fn world_over(alloc: Global, board: BoardConfig, version: Version) -> Option<World> {
-    let Some(disk) = formatted_as(alloc, &board, version) else {
-        return None;
-    };
-    Some(World::new(alloc, disk, board))
-}
-
-/// A world over a fresh image of so many guests.
-pub fn world_of(alloc: Global, guests: usize, version: Version) -> Option<World> {
-    let Some(board) = board_of(alloc, guests) else {
-        return None;
-    };
-    world_over(alloc, board, version)
-}
-
-/// What a list of events left of a world of one guest.
+/// What is seen of a world of one guest.
 #[derive(Clone, Copy)]
-struct Left {
-    /// What ended the list before its end.
-    refusal: Option<Refusal>,
-    openings: u64,
-    /// How many requests were accepted, and how many replies were published.
-    accepted: usize,
-    replies: usize,
-    /// The needs of the replies, as digits.
-    needs: u64,
-    /// The counter, and the first byte of the first block.
-    found: Option<(u32, u8)>,
-    has_eight: bool,
+enum Sight {
+    /// What was refused first.
+    Refused(Option<Refusal>),
+    Openings(u64),
+    /// How many requests were accepted.
+    Accepted(usize),
+    /// How many replies were published, and what each of them needed, as digits.
+    Replies(usize, u64),
+    /// The write counter.
+    Counter(u32),
+    /// The block there is of this byte.
+    Block(u16, u8),
+    /// The partition is that after one of three writes or none, and has what the last reply needed,
+    /// which is one more than its counter.
+    IsOneOfFour,
 }
 
-/// The counter of the guest's partition, and the first byte of its first block.
-fn found(world: &World) -> Option<(u32, u8)> {
-    let partition = world.partition(0)?;
-    Some((partition.counter(), partition.block(0)[0]))
+/// The needs of what was published, as digits.
+fn needs(publications: &[Publication]) -> u64 {
+    let mut digits = 0_u64;
+    for publication in publications.iter().take(9) {
+        digits = digits.saturating_mul(10).saturating_add(publication.need);
+    }
+    digits
 }
 
-fn accepted(world: &World) -> usize {
-    world.accepted(0).len()
-}
-
-/// How many replies were published, and their needs as digits.
-fn replies(world: &World) -> (usize, u64) {
-    let publications = world.published(0);
-    (publications.len(), needs(publications))
-}
-
-fn holds_eight(world: &World) -> bool {
-    match world.partition(0) {
-        Some(partition) => has_eight(partition),
+fn has_counter<W: Lives>(world: &W, counter: u32) -> bool {
+    match world.partition_of(0) {
+        Some(partition) => partition.counter() == counter,
         None => false,
     }
 }
 
-fn left_in(world: &World, refusal: Option<Refusal>) -> Left {
-    let (replies, needs) = replies(world);
-    Left {
-        refusal,
-        openings: world.openings(),
-        accepted: accepted(world),
-        replies,
-        needs,
-        found: found(world),
-        has_eight: holds_eight(world),
+fn has_block<W: Lives>(world: &W, address: u16, byte: u8) -> bool {
+    match world.partition_of(0) {
+        Some(partition) => partition.block(address) == [byte; 256],
+        None => false,
     }
 }
 
-/// What these events leave of a world.
-fn run(world: &mut World, events: &[Event]) -> Left {
-    let refusal = world.run(events);
-    left_in(world, refusal)
-}
-
-/// What these events leave of a fresh world. A world is held here alone, since its drop is dear to
-/// prove.
-fn left_by(alloc: Global, events: &[Event]) -> Option<Left> {
-    let Some(mut world) = world_of(alloc, 1, Version::One) else {
-        return None;
+fn is_one_of_four<W: Lives>(world: &W) -> bool {
+    let need = needs(world.published_to(0)) % 10;
+    let Some(partition) = world.partition_of(0) else {
+        return false;
     };
-    Some(run(&mut world, events))
-}
-
-impl Left {
-    /// The counter, how many requests were accepted, and what the last reply needed.
-    fn seen(&self) -> Option<(u32, usize, u64)> {
-        let (counter, _) = self.found?;
-        Some((counter, self.accepted, self.needs % 10))
+    let counter = partition.counter();
+    match [0, 0xa0, 0xa1, 0xa2].get(counter as usize) {
+        Some(byte) => partition.block(0) == [*byte; 256] && u64::from(counter) + 1 >= need,
+        None => false,
     }
 }
 
-/// What lists of moves of guest 0 leave, one behind the other, where the store's advance after
-/// `left` others is stopped.
-fn left_of(alloc: Global, lists: &[&[Move]], left: Option<u32>, filler: u8) -> Option<Left> {
-    let mut acts = Acts::new(alloc, left, filler);
-    for moves in lists {
-        if !acts.play(0, *moves) {
-            return None;
+fn is_seen<W: Lives>(world: &W, refusal: Option<Refusal>, sight: &Sight) -> bool {
+    match sight {
+        Sight::Refused(first) => refusal == *first,
+        Sight::Openings(count) => world.opened() == *count,
+        Sight::Accepted(count) => world.accepted_of(0).len() == *count,
+        Sight::Replies(count, digits) => {
+            let publications = world.published_to(0);
+            publications.len() == *count && needs(publications) == *digits
         }
+        Sight::Counter(counter) => has_counter(world, *counter),
+        Sight::Block(address, byte) => has_block(world, *address, *byte),
+        Sight::IsOneOfFour => is_one_of_four(world),
     }
-    left_by(alloc, &acts.events)
+}
+
+/// Lists of moves of guest 0, one behind the other, where the store's advance after `left` others
+/// is stopped; and what is seen then.
+#[derive(Clone, Copy)]
+struct Moves<'a> {
+    lists: &'a [&'a [Move]],
+    left: Option<u32>,
+    filler: u8,
+    sights: &'a [Sight],
+}
+
+impl<'a> Tale for Moves<'a> {
+    fn is_so<W: Lives>(&self, alloc: Global, world: &mut W) -> bool {
+        let mut acts = Acts::new(alloc, self.left, self.filler);
+        for moves in self.lists {
+            if !acts.play(world, 0, *moves) {
+                return false;
+            }
+        }
+        for sight in self.sights {
+            if !is_seen(world, acts.refusal, sight) {
+                return false;
+            }
+        }
+        true
+    }
+}
+
+/// Whether this is seen of a fresh world, after lists of moves.
+fn is_seen_after(
+    alloc: Global,
+    lists: &[&[Move]],
+    left: Option<u32>,
+    filler: u8,
+    sights: &[Sight],
+) -> bool {
+    let moves = Moves {
+        lists,
+        left,
+        filler,
+        sights,
+    };
+    is_told(alloc, 1, Image::One, &moves)
 }
 
 /// How many calls the store makes of a key.
 const KEY_CALLS: u32 = 8;
 
 /// The guest has its key, and the reply to it; the store is idle.
-pub(crate) static KEYED: [Move; 6] = [
+pub static KEYED: [Move; 6] = [
     Move::Open,
     Move::SetUp,
     Move::Submit(Asked::Key(0x11)),
@@ -137,48 +146,54 @@ static UNDER_WAY: [Move; 6] = [
     Move::Reply,
 ];
 
-/// What the guest has after a stop of that with this filler.
-fn seen_after(alloc: Global, filler: u8) -> Option<Option<(u32, usize, u64)>> {
-    let Some(left) = left_of(alloc, &[&KEYED, &UNDER_WAY, &[Move::Stop(filler)]], None, 0) else {
-        return None;
-    };
-    if left.refusal.is_some() || left.replies != 1 {
-        return None;
-    }
-    Some(left.seen())
+/// What is seen after a stop of that, of which the write isn't there, or is.
+static OLD: [Sight; 4] = [
+    Sight::Refused(None),
+    Sight::Counter(0),
+    Sight::Accepted(1),
+    Sight::Replies(1, 1),
+];
+
+static NEW: [Sight; 4] = [
+    Sight::Refused(None),
+    Sight::Counter(1),
+    Sight::Accepted(2),
+    Sight::Replies(1, 1),
+];
+
+/// Whether this is seen after that stop.
+fn is_seen_after_stop(alloc: Global, stop: &[Move], sights: &[Sight]) -> bool {
+    let lists = [KEYED.as_slice(), UNDER_WAY.as_slice(), stop];
+    is_seen_after(alloc, &lists, None, 0, sights)
 }
 
 #[test]
 fn a_gate_that_is_written_may_be_open(rt: HostRuntime) -> Result<(), Fail> {
-    let old = seen_after(rt.alloc(), 0) == Some(Some((0, 1, 1)));
-    let new = seen_after(rt.alloc(), 1) == Some(Some((1, 2, 1)));
-    check(old && new, "the old, or the new")
-}
-
-/// The sync of that gate fails, the disk is opened again, and the host stops once more.
-static FAILED: [Move; 4] = [Move::FailNext, Move::Advances(1), Move::Open, Move::Stop(0)];
-
-#[test]
-fn an_opening_syncs_what_a_failed_sync_left(rt: HostRuntime) -> Result<(), Fail> {
-    let Some(left) = left_of(rt.alloc(), &[&KEYED, &UNDER_WAY, &FAILED], None, 0) else {
-        return Err(Fail::from("no left"));
-    };
-    let fault = StepFault::Store(StoreFault::DiskFault);
     check(
-        left.refusal == Some(Refusal::Step(fault))
-            && left.seen() == Some((1, 2, 1))
-            && left.openings == 3,
-        "the refusal, the counter, openings",
+        is_seen_after_stop(rt.alloc(), &[Move::Stop(0)], &OLD)
+            && is_seen_after_stop(rt.alloc(), &[Move::Stop(1)], &NEW),
+        "the old, or the new",
     )
 }
 
-/// The needs of what was published, as digits.
-fn needs(publications: &[Publication]) -> u64 {
-    let mut digits = 0_u64;
-    for publication in publications.iter().take(9) {
-        digits = digits.saturating_mul(10).saturating_add(publication.need);
-    }
-    digits
+/// The sync of that gate fails, the disk is opened again, and the host stops once more.
+static FAILED: [Move; 4] = [Move::Fail(1), Move::Advances(1), Move::Open, Move::Stop(0)];
+
+static AFTER_FAILURE: [Sight; 5] = [
+    Sight::Refused(Some(Refusal::Step(StepFault::Store(StoreFault::DiskFault)))),
+    Sight::Counter(1),
+    Sight::Accepted(2),
+    Sight::Replies(1, 1),
+    Sight::Openings(3),
+];
+
+#[test]
+fn an_opening_syncs_what_a_failed_sync_left(rt: HostRuntime) -> Result<(), Fail> {
+    let lists = [KEYED.as_slice(), UNDER_WAY.as_slice(), FAILED.as_slice()];
+    check(
+        is_seen_after(rt.alloc(), &lists, None, 0, &AFTER_FAILURE),
+        "the refusal, the counter, openings",
+    )
 }
 
 /// A read, the key, a read, a write and a read, and each reply leaves once the store is idle.
@@ -201,14 +216,18 @@ static ASKED: [Move; 16] = [
     Move::Reply,
 ];
 
+/// The replies need 0, 1, 1, 2 and 2.
+static ANSWERED: [Sight; 3] = [
+    Sight::Refused(None),
+    Sight::Accepted(2),
+    Sight::Replies(5, 1122),
+];
+
 #[test]
 fn each_reply_needs_what_was_accepted_before_it(rt: HostRuntime) -> Result<(), Fail> {
-    let Some(left) = left_of(rt.alloc(), &[&ASKED], None, 0) else {
-        return Err(Fail::from("no left"));
-    };
     check(
-        left.refusal.is_none() && left.replies == 5 && left.needs == 1122 && left.accepted == 2,
-        "a refusal, replies, needs 0, 1, 1, 2, 2, accepted",
+        is_seen_after(rt.alloc(), &[&ASKED], None, 0, &ANSWERED),
+        "a refusal, replies, needs, accepted",
     )
 }
 
@@ -233,41 +252,16 @@ static TURN: [Move; 3] = [Move::HandOver, Move::Advances(1), Move::Reply];
 /// More turns than three writes take.
 const TURNS: u32 = 32;
 
-/// What is left by a stop within the store's call of one of these turns.
-fn after_stop(alloc: Global, moves: &[Move], turn: u32, filler: u8) -> Option<Left> {
-    let mut acts = Acts::new(alloc, Some(turn.saturating_add(KEY_CALLS)), filler);
-    let mut played = acts.play(0, &KEYED) && acts.play(0, moves);
-    for _ in 0..TURNS {
-        played = played && acts.play(0, &TURN);
-    }
-    if !played {
-        return None;
-    }
-    left_by(alloc, &acts.events)
-}
+static ONE_OF_FOUR: [Sight; 3] = [Sight::Refused(None), Sight::Openings(2), Sight::IsOneOfFour];
 
-/// The partition is that after one of the writes or none, and has what the last reply needed, which
-/// is one more than its counter.
-fn keeps_what_was_shown(left: &Left) -> bool {
-    let Some((counter, _, need)) = left.seen() else {
-        return false;
-    };
-    let wanted = [0, 0xa0, 0xa1, 0xa2].get(counter as usize);
-    left.refusal.is_none()
-        && left.openings == 2
-        && left.found.map(|it| it.1) == wanted.copied()
-        && u64::from(counter) + 1 >= need
-}
-
-/// Stops within the call of this turn that leave what the last sync left, and bytes 0xff.
+/// Stops within the call of one of these turns that leave what the last sync left, and bytes 0xff.
 fn stay(alloc: Global, moves: &[Move], turn: u32) -> bool {
-    for filler in [0, 3] {
-        match after_stop(alloc, moves, turn, filler) {
-            Some(left) if keeps_what_was_shown(&left) => {}
-            _ => return false,
-        }
-    }
-    true
+    let mut lists = [TURN.as_slice(); 34];
+    lists[0] = KEYED.as_slice();
+    lists[1] = moves;
+    let left = Some(turn.saturating_add(KEY_CALLS));
+    is_seen_after(alloc, &lists, left, 0, &ONE_OF_FOUR)
+        && is_seen_after(alloc, &lists, left, 3, &ONE_OF_FOUR)
 }
 
 #[test]
@@ -292,50 +286,48 @@ static FOUR_WRITES: [Move; 6] = [
     Move::Advances(4),
 ];
 
-/// The counter after a stop within the sync of their gate, which is the fourth of their calls.
-fn counter_of_four(alloc: Global, filler: u8) -> Option<Option<u32>> {
-    let Some(left) = left_of(alloc, &[&KEYED, &FOUR_WRITES], Some(KEY_CALLS + 3), filler) else {
-        return None;
-    };
-    if left.refusal.is_some() || left.accepted != left.found.map_or(9, |it| it.0 as usize + 1) {
-        return None;
-    }
-    Some(left.found.map(|it| it.0))
-}
+/// What is seen after a stop within the sync of their gate, which is the fourth of their calls: none
+/// of them, or all four.
+static NONE: [Sight; 3] = [Sight::Refused(None), Sight::Counter(0), Sight::Accepted(1)];
+
+static ALL_FOUR: [Sight; 3] = [Sight::Refused(None), Sight::Counter(4), Sight::Accepted(5)];
 
 #[test]
 fn four_writes_are_there_or_none(rt: HostRuntime) -> Result<(), Fail> {
+    let lists = [KEYED.as_slice(), FOUR_WRITES.as_slice()];
+    let left = Some(KEY_CALLS + 3);
     check(
-        counter_of_four(rt.alloc(), 2) == Some(Some(0))
-            && counter_of_four(rt.alloc(), 4) == Some(Some(4)),
+        is_seen_after(rt.alloc(), &lists, left, 2, &NONE)
+            && is_seen_after(rt.alloc(), &lists, left, 4, &ALL_FOUR),
         "none, or all four",
     )
 }
 
-/// Whether the first eight blocks are of bytes 1, 2, .. 8, and the counter is 1.
-fn has_eight(partition: &Partition) -> bool {
-    for place in 0..8_u8 {
-        if partition.block(u16::from(place)) != [place + 1; 256] {
-            return false;
-        }
-    }
-    partition.counter() == 1
-}
-
 static EIGHT_BLOCKS: [Move; 3] = [
-    Move::Submit(Asked::Blocks(0, 8)),
+    Move::Submit(Asked::Blocks(0, 8, 0)),
     Move::HandOver,
     Move::Advances(5),
+];
+
+static HAS_EIGHT: [Sight; 10] = [
+    Sight::Refused(None),
+    Sight::Counter(1),
+    Sight::Block(0, 1),
+    Sight::Block(1, 2),
+    Sight::Block(2, 3),
+    Sight::Block(3, 4),
+    Sight::Block(4, 5),
+    Sight::Block(5, 6),
+    Sight::Block(6, 7),
+    Sight::Block(7, 8),
 ];
 
 #[test]
 fn no_write_of_eight_blocks_is_half_there(rt: HostRuntime) -> Result<(), Fail> {
     // Stopped within the write of the blocks, the fifth of its own calls.
-    let Some(left) = left_of(rt.alloc(), &[&KEYED, &EIGHT_BLOCKS], Some(KEY_CALLS + 4), 3) else {
-        return Err(Fail::from("no left"));
-    };
+    let lists = [KEYED.as_slice(), EIGHT_BLOCKS.as_slice()];
     check(
-        left.refusal.is_none() && left.has_eight,
+        is_seen_after(rt.alloc(), &lists, Some(KEY_CALLS + 4), 3, &HAS_EIGHT),
         "a refusal, the blocks",
     )
 }

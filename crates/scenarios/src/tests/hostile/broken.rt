@@ -1,13 +1,13 @@
 //! Chains that break the rules of a ring, or just keep them, on both kinds of ring.
 mod over;
 
-use super::{Hostile, check_beside, loaded, sight_alone};
+use super::{check_beside, sight_alone};
 use crate::tests::acts::Acts;
-use crate::tests::boards::{Table, play, publish};
+use crate::tests::boards::{Deed, Table, Watched, loaded};
 use crate::tests::scene::check;
 use board::{Seen, Step, StepFault};
 use chains::ChainFault;
-use mmio_transport::{DeviceFault, register as reg};
+use mmio_transport::{DeviceFault, Published, register as reg};
 use std::alloc::Global;
 use std::test::Fail;
 
@@ -58,7 +58,6 @@ type Answer = Result<(), ChainFault>;
 /// A chain of a queue of four places of this kind.
 #[derive(Clone, Copy)]
 struct Case<'a> {
-    alloc: Global,
     kind: Kind,
     row: &'a Row,
 }
@@ -91,10 +90,15 @@ fn bytes_of(fields: Descriptor) -> [u8; 16] {
     number.to_le_bytes()
 }
 
-fn describe(acts: &mut Acts, at: u64, descriptors: &[Descriptor]) -> bool {
+fn describe<B: Table>(
+    acts: &mut Acts,
+    board: &mut Watched<B>,
+    at: u64,
+    descriptors: &[Descriptor],
+) -> bool {
     let mut at = at;
     for fields in descriptors {
-        if !acts.store(1, at, &bytes_of(*fields)) {
+        if !acts.store(board, 1, at, &bytes_of(*fields)) {
             return false;
         }
         at = at.wrapping_add(16);
@@ -105,21 +109,14 @@ fn describe(acts: &mut Acts, at: u64, descriptors: &[Descriptor]) -> bool {
 impl<'a> Case<'a> {
     /// The hostile guest sets its device up and makes the chain available: a split ring by the
     /// index 1 of the chain that begins with its first descriptor.
-    fn offered(&self) -> Option<Acts> {
+    fn offers<B: Table>(&self, alloc: Global, board: &mut Watched<B>) -> bool {
         let (first, second, entry, last, _, _) = *self.row;
-        let mut acts = Acts::new(self.alloc, None, 0);
-        if !acts.write_all(1, &registers_of(self.kind))
-            || !describe(&mut acts, 0x1000, &[first, second, second, second])
-            || !describe(&mut acts, TABLE, &[entry, last])
-        {
-            return None;
-        }
-        if self.kind == Kind::Split {
-            if !acts.store(1, 0x2000, &[0, 0, 1, 0, 0, 0]) {
-                return None;
-            }
-        }
-        Some(acts)
+        let mut acts = Acts::new(alloc, None, 0);
+        acts.write_all(board, 1, &registers_of(self.kind))
+            && describe(&mut acts, board, 0x1000, &[first, second, second, second])
+            && describe(&mut acts, board, TABLE, &[entry, last])
+            && (self.kind == Kind::Packed || acts.store(board, 1, 0x2000, &[0, 0, 1, 0, 0, 0]))
+            && acts.refusal.is_none()
     }
 
     /// Where it stands what is left of the ring.
@@ -152,11 +149,9 @@ fn check_answered<B: Table>(board: &mut B) -> bool {
             return false;
         }
     }
-    if !publish(board, 1) {
-        return false;
-    }
-    let next = board.make(&Step::Pop(1));
-    next == Ok(Seen::Nothing)
+    let made = board.make(&Step::Publish(1));
+    matches!(made, Ok(Seen::Published(Published::Wrote { .. })))
+        && board.make(&Step::Pop(1)) == Ok(Seen::Nothing)
 }
 
 fn check_pop<B: Table>(board: &mut B, answer: Answer) -> bool {
@@ -170,21 +165,11 @@ fn check_pop<B: Table>(board: &mut B, answer: Answer) -> bool {
     }
 }
 
-impl<'a> Hostile for Case<'a> {
-    fn act<B: Table>(&self, board: &mut B) -> bool {
-        let Some(acts) = self.offered() else {
-            return false;
-        };
-        let Some(refusal) = play(board, &acts.events) else {
-            return false;
-        };
-        if refusal.is_some() || !check_pop(board, self.row.4) {
-            return false;
-        }
-        let Some(left): Option<[u8; 8]> = loaded(board, 1, self.place_left()) else {
-            return false;
-        };
-        left == self.row.5
+impl<'a> Deed for Case<'a> {
+    fn is_done<B: Table>(&self, alloc: Global, board: &mut Watched<B>) -> bool {
+        let is_popped = self.offers(alloc, board) && check_pop(&mut board.board, self.row.4);
+        let left: Option<[u8; 8]> = loaded(&board.board, 1, self.place_left());
+        is_popped && left == Some(self.row.5)
     }
 }
 
@@ -319,7 +304,7 @@ fn check_all(alloc: Global, kind: Kind, rows: &[Row]) -> bool {
         return false;
     };
     for row in rows {
-        if !check_beside(alloc, &alone, &Case { alloc, kind, row }) {
+        if !check_beside(alloc, &alone, &Case { kind, row }) {
             return false;
         }
     }

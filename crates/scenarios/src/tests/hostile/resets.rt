@@ -1,85 +1,58 @@
 //! A guest that resets its device a thousand times, each time with a reply on its way.
-use super::{Hostile, check_beside, loaded, sight_alone};
+use super::{check_beside, sight_alone};
 use crate::tests::acts::{Acts, Move, SETUP};
 use crate::tests::asked::Asked;
-use crate::tests::boards::{Table, play};
+use crate::tests::boards::{Deed, Table, Watched, loaded};
 use crate::tests::scene::check;
 use board::{Seen, Step};
 use mmio_transport::Published;
 use std::alloc::Global;
 use std::test::Fail;
-use world::Event;
 
 const RESETS: u64 = 1000;
 
 #[derive(Clone, Copy)]
-struct Resets {
-    alloc: Global,
+struct Resets;
+
+fn is_in_session<B: Table>(board: &B, session: u64) -> bool {
+    match board.device_seen(1) {
+        Some(device) => device.session() == session,
+        None => false,
+    }
 }
 
-/// The guest sets its device up, without a reset before.
-fn begin(alloc: Global) -> Option<Acts> {
+/// The guest offers a request for its counter, which is popped and answered; then it resets its
+/// device and sets it up again, and the reply is collected, and is dropped.
+fn drops<B: Table>(alloc: Global, board: &mut Watched<B>) -> bool {
     let mut acts = Acts::new(alloc, None, 0);
-    if !acts.write_all(1, SETUP.get(1..).unwrap_or(&[])) {
-        return None;
-    }
-    Some(acts)
+    let is_collected = acts.goes(board, 1, &[Move::Submit(Asked::Counter(1)), Move::SetUp])
+        && acts.step(board, Step::Collect(1))
+        && board.board.reply(1).is_some();
+    let made = board.board.make(&Step::Publish(1));
+    is_collected && made == Ok(Seen::Published(Published::Dropped))
 }
 
-/// It offers a request for its counter, which is popped and answered; then it resets its device
-/// and sets it up again, and the reply is collected.
-fn round(alloc: Global) -> Option<Acts> {
-    let mut acts = Acts::new(alloc, None, 0);
-    if !acts.play(1, &[Move::Submit(Asked::Counter(1)), Move::SetUp])
-        || acts.events.push(Event::Do(Step::Collect(1))).is_err()
-    {
-        return None;
-    }
-    Some(acts)
-}
-
-fn session<B: Table>(board: &B) -> Option<u64> {
-    Some(board.device_seen(1)?.session())
-}
-
-/// The reply was collected, and is dropped.
-fn drops<B: Table>(board: &mut B, round: &Acts) -> bool {
-    let Some(refusal) = play(board, &round.events) else {
-        return false;
-    };
-    if refusal.is_some() || board.reply(1).is_none() {
-        return false;
-    }
-    let made = board.make(&Step::Publish(1));
-    made == Ok(Seen::Published(Published::Dropped))
-}
-
-impl Hostile for Resets {
-    fn act<B: Table>(&self, board: &mut B) -> bool {
-        let Some(begun) = begin(self.alloc) else {
-            return false;
-        };
-        let Some(refusal) = play(board, &begun.events) else {
-            return false;
-        };
-        if refusal.is_some() || session(board) != Some(1) {
+fn drops_all<B: Table>(alloc: Global, board: &mut Watched<B>) -> bool {
+    for _ in 0..RESETS {
+        if !drops(alloc, board) {
             return false;
         }
-        let Some(round) = round(self.alloc) else {
-            return false;
-        };
-        for _ in 0..RESETS {
-            if !drops(board, &round) {
-                return false;
-            }
-        }
-        if session(board) != Some(RESETS + 1) {
-            return false;
-        }
-        let Some(used): Option<[u8; 134]> = loaded(board, 1, 0x3000) else {
-            return false;
-        };
-        used == [0; 134]
+    }
+    true
+}
+
+impl Deed for Resets {
+    /// The guest sets its device up first, without a reset before.
+    fn is_done<B: Table>(&self, alloc: Global, board: &mut Watched<B>) -> bool {
+        let mut acts = Acts::new(alloc, None, 0);
+        let first = SETUP.get(1..).unwrap_or(&[]);
+        let are_dropped = acts.write_all(board, 1, first)
+            && acts.refusal.is_none()
+            && is_in_session(&board.board, 1)
+            && drops_all(alloc, board)
+            && is_in_session(&board.board, RESETS + 1);
+        let used: Option<[u8; 134]> = loaded(&board.board, 1, 0x3000);
+        are_dropped && used == Some([0; 134])
     }
 }
 
@@ -89,8 +62,5 @@ fn each_reply_of_a_session_before_is_dropped(rt: HostRuntime) -> Result<(), Fail
     let Some(alone) = sight_alone(alloc) else {
         return Err(Fail::from("no alone"));
     };
-    check(
-        check_beside(alloc, &alone, &Resets { alloc }),
-        "another outcome",
-    )
+    check(check_beside(alloc, &alone, &Resets), "another outcome")
 }

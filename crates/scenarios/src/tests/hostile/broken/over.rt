@@ -1,8 +1,9 @@
 //! A reply that is written over the ring.
 use super::{AVAIL, Case, Kind, NONE, Row, WRITE};
 use crate::tests::acts::Acts;
-use crate::tests::boards::{Table, play};
-use crate::tests::hostile::{Hostile, check_beside, loaded, sight_alone};
+use crate::tests::boards::{Deed, Table, Watched, loaded};
+use crate::tests::hostile::{check_beside, sight_alone};
+use std::alloc::Global;
 use std::test::Fail;
 
 /// A chain with room for a frame over the ring itself: the used ring of a split one, the
@@ -42,22 +43,15 @@ struct Over<'a> {
     at: u64,
 }
 
-impl<'a> Hostile for Over<'a> {
-    fn act<B: Table>(&self, board: &mut B) -> bool {
-        let mut acts = Acts::new(self.case.alloc, None, 0);
-        if !acts.store(1, self.at.saturating_add(64), &[0xee; 448]) {
-            return false;
-        }
-        let Some(refusal) = play(board, &acts.events) else {
-            return false;
-        };
-        if refusal.is_some() || !self.case.act(board) {
-            return false;
-        }
-        let Some(reply): Option<[u8; 448]> = loaded(board, 1, self.at.saturating_add(64)) else {
-            return false;
-        };
-        reply == failed()
+impl<'a> Deed for Over<'a> {
+    fn is_done<B: Table>(&self, alloc: Global, board: &mut Watched<B>) -> bool {
+        let mut acts = Acts::new(alloc, None, 0);
+        let behind = self.at.saturating_add(64);
+        let is_done = acts.store(board, 1, behind, &[0xee; 448])
+            && acts.refusal.is_none()
+            && self.case.is_done(alloc, board);
+        let reply: Option<[u8; 448]> = loaded(&board.board, 1, behind);
+        is_done && reply == Some(failed())
     }
 }
 
@@ -75,11 +69,7 @@ fn a_reply_over_the_ring(rt: HostRuntime) -> Result<(), Fail> {
         return Err(Fail::from("no alone"));
     };
     for (kind, at, row) in &OVER_THE_RING {
-        let case = Case {
-            alloc,
-            kind: *kind,
-            row,
-        };
+        let case = Case { kind: *kind, row };
         if !check_beside(alloc, &alone, &Over { case, at: *at }) {
             return Err(Fail::from("another outcome"));
         }

@@ -1,5 +1,5 @@
 use Rattle.std.proofs.Common.{◌≡◌, map, take}
-use Rattle.scenarios.proofs.tests.scene.fresh_partitions.Given as goal
+use Rattle.scenarios.proofs.tests.desk.fresh_partitions.Given as goal
 
 abbrev pub invariant-loop-guest : goal.invariant-loop-guest
 invariant-loop-guest l = map (λ p. p.capacity) l.partitions.items
