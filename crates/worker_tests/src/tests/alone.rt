@@ -1,7 +1,7 @@
 //! What guests are told that are served at once is what each is told by a host that serves one
 //! chain at a time.
 use crate::tests::runs::{Ending, Look, run_openly};
-use crate::tests::scene::{Step, board_of, check, formatted, script_of, scripts_by};
+use crate::tests::scene::{Step, adds_script, board_of, check, formatted, script_of};
 use board::Board;
 use disk::MemDisk;
 use host::{Answer, Host};
@@ -94,7 +94,7 @@ pub fn all_alone(alloc: Global, scripts: &[Script]) -> Option<Vec<Replies>> {
 }
 
 /// Whether these are the replies.
-pub fn are_told(answers: &[Answer], replies: &[Vec<u8>]) -> bool {
+pub fn are_replies(answers: &[Answer], replies: &[Vec<u8>]) -> bool {
     for (answer, reply) in answers.iter().zip(replies.iter()) {
         match answer {
             Answer::Used(told) if told.as_slice() == reply.as_slice() => {}
@@ -107,7 +107,7 @@ pub fn are_told(answers: &[Answer], replies: &[Vec<u8>]) -> bool {
 /// Whether each guest was told what it is told alone.
 fn are_all_told(drivers: &[DriverEnd], alone: &[Replies]) -> bool {
     for (driver, replies) in drivers.iter().zip(alone.iter()) {
-        if !are_told(&driver.answers, replies) {
+        if !are_replies(&driver.answers, replies) {
             return false;
         }
     }
@@ -116,7 +116,7 @@ fn are_all_told(drivers: &[DriverEnd], alone: &[Replies]) -> bool {
 
 /// Each guest was told what it is told alone, which is so many replies.
 #[derive(Clone, Copy)]
-pub struct Alone<'a>(pub &'a [Replies], pub u64);
+struct Alone<'a>(&'a [Replies], u64);
 
 impl<'a> Look for Alone<'a> {
     fn is_met<E: Ending>(&self, ended: &E) -> bool {
@@ -124,23 +124,42 @@ impl<'a> Look for Alone<'a> {
     }
 }
 
+fn scripts_of(alloc: Global, guests: u8) -> Option<Vec<Script>> {
+    let mut scripts = Vec::new(alloc);
+    let mut made = true;
+    for guest in 0..guests {
+        made = made && adds_script(&mut scripts, script_of(alloc, &steps_of(guest)));
+    }
+    if made { Some(scripts) } else { None }
+}
+
+/// Whether a run of these scripts tells each guest what it is told alone, which is so many replies
+/// in all.
+pub fn are_told_alike<R: Threads + Wait + Sync>(
+    rt: &R,
+    alloc: Global,
+    scripts: &[Script],
+    alone: &[Replies],
+    turns: u64,
+) -> bool {
+    run_openly(rt, alloc, &[], scripts, &Alone(alone, turns)) == Some(Ok(true))
+}
+
 /// So many guests are told at once what each is told alone.
-fn are_told_alike<R: Threads + Wait + Sync>(rt: &R, alloc: Global, guests: u8) -> bool {
-    let made = scripts_by(alloc, guests, |guest| script_of(alloc, &steps_of(guest)));
-    let Some(scripts) = made else {
+fn are_told<R: Threads + Wait + Sync>(rt: &R, alloc: Global, guests: u8) -> bool {
+    let Some(scripts) = scripts_of(alloc, guests) else {
         return false;
     };
-    let Some(alone) = all_alone(alloc, &scripts) else {
-        return false;
-    };
-    let look = Alone(&alone, 7 * u64::from(guests));
-    run_openly(rt, alloc, &[], &scripts, &look) == Some(Ok(true))
+    match all_alone(alloc, &scripts) {
+        Some(alone) => are_told_alike(rt, alloc, &scripts, &alone, 7 * u64::from(guests)),
+        None => false,
+    }
 }
 
 #[test]
 fn guests_are_told_at_once_what_each_is_told_alone(rt: HostRuntime) -> Result<(), Fail> {
     check(
-        are_told_alike(&rt, rt.alloc(), 1) && are_told_alike(&rt, rt.alloc(), 8),
+        are_told(&rt, rt.alloc(), 1) && are_told(&rt, rt.alloc(), 8),
         "another outcome",
     )
 }

@@ -1,9 +1,8 @@
 //! Faults of several threads at once: the lowest-numbered guest's is answered.
 use crate::tests::devices::Other;
-use crate::tests::full::script_of_reads;
 use crate::tests::gates::slept_till;
 use crate::tests::runs::{Ends, run, run_openly};
-use crate::tests::scene::{Step, check, formatted, script_of, scripts_by, two_scripts};
+use crate::tests::scene::{Step, check, formatted, scripts_of};
 use disk::CutDisk;
 use host::HostFault;
 use std::alloc::Global;
@@ -17,7 +16,7 @@ use workers::{Gate, Place, Script, Who};
 
 /// The scripts of two guests with a key each.
 fn two_keys(alloc: Global) -> Option<Vec<Script>> {
-    two_scripts(alloc, &[Step::Key(0x11)], &[Step::Key(0x11)])
+    scripts_of(alloc, &[&[Step::Key(0x11)], &[Step::Key(0x11)]])
 }
 
 /// Whether a run of two guests ends with this fault of which guest 1 has this device.
@@ -62,26 +61,27 @@ impl<'a, C: Clock> Gate for HoldsAWhile<'a, C> {
     }
 }
 
-/// A script with one chain behind many resets, so that the other guest's worker has popped before.
-fn late_script(alloc: Global) -> Option<Script> {
+/// One chain behind many resets, so that the other guest's worker has popped before.
+fn late_steps(alloc: Global) -> Option<Vec<Step>> {
     let Ok(mut steps) = vec![in alloc; Step::Reset; 1_000] else {
         return None;
     };
     if steps.push(Step::Outcome).is_err() {
         return None;
     }
-    script_of(alloc, &steps)
+    Some(steps)
 }
 
 /// The scripts of two guests, of which this one's is late.
 fn late_scripts(alloc: Global, late: u8) -> Option<Vec<Script>> {
-    scripts_by(alloc, 2, |guest| {
-        if guest == late {
-            late_script(alloc)
-        } else {
-            script_of_reads(alloc, 1)
-        }
-    })
+    let Some(resets) = late_steps(alloc) else {
+        return None;
+    };
+    if late == 0 {
+        scripts_of(alloc, &[resets.as_slice(), &[Step::Outcome]])
+    } else {
+        scripts_of(alloc, &[&[Step::Outcome], resets.as_slice()])
+    }
 }
 
 /// A run of two guests, of which this one's driver comes to a fault, and the other's worker, which

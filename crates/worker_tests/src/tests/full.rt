@@ -1,21 +1,12 @@
 //! As many requests as a history holds, and one more, at which it rolls.
 use crate::tests::runs::{Ending, Look, run_openly};
-use crate::tests::scene::{Step, check, result_read, script_of, scripts_by};
+use crate::tests::scene::{check, reads, result_read, scripts_of};
 use host::Answer;
 use rpmb_book::Receipt;
 use std::alloc::Global;
 use std::sync::Wait;
 use std::test::Fail;
 use std::thread::Threads;
-use workers::Script;
-
-/// A script that asks so often for the result.
-pub fn script_of_reads(alloc: Global, chains: u16) -> Option<Script> {
-    match vec![in alloc; Step::Outcome; usize::from(chains)] {
-        Ok(steps) => script_of(alloc, &steps),
-        Err(_) => None,
-    }
-}
 
 /// The first turn of the book that a receipt finds.
 fn first_of<E: Ending>(ended: &E, receipts: &[Receipt]) -> u128 {
@@ -98,10 +89,10 @@ impl Look for AllAnswered {
 
 /// A run of two guests with so many chains, all of which are answered.
 fn run_reads<R: Threads + Wait + Sync>(rt: &R, alloc: Global, look: AllAnswered) -> bool {
-    let made = scripts_by(alloc, 2, |guest| {
-        script_of_reads(alloc, if guest == 0 { look.0 } else { look.1 })
-    });
-    match made {
+    let (Some(first), Some(second)) = (reads(alloc, look.0), reads(alloc, look.1)) else {
+        return false;
+    };
+    match scripts_of(alloc, &[first.as_slice(), second.as_slice()]) {
         Some(scripts) => run_openly(rt, alloc, &[], &scripts, &look) == Some(Ok(true)),
         None => false,
     }

@@ -1,13 +1,22 @@
 //! Sixty-four guests at once, each with two hundred chains.
-use crate::tests::alone::{Alone, Replies, all_alone};
+use crate::tests::alone::{Replies, all_alone, are_told_alike};
 use crate::tests::asking::script_asking;
-use crate::tests::runs::run_openly;
-use crate::tests::scene::{check, scripts_by};
+use crate::tests::scene::{adds_script, check};
 use std::alloc::Global;
 use std::sync::Wait;
 use std::test::Fail;
 use std::thread::Threads;
 use workers::Script;
+
+/// A script for each guest; `salt` makes those of one test others than those of the next.
+fn scripts_of(alloc: Global, salt: u8) -> Option<Vec<Script>> {
+    let mut scripts = Vec::new(alloc);
+    let mut made = true;
+    for guest in 0..64 {
+        made = made && adds_script(&mut scripts, script_asking(alloc, guest, salt));
+    }
+    if made { Some(scripts) } else { None }
+}
 
 /// Each guest has two hundred chains.
 fn are_whole(alone: &[Replies]) -> bool {
@@ -20,43 +29,46 @@ fn are_whole(alone: &[Replies]) -> bool {
 }
 
 /// Five runs of one board, in which each guest is told what it is told alone.
-fn run_five<R: Threads + Wait + Sync>(rt: &R, alloc: Global, scripts: &[Script]) -> bool {
-    let Some(alone) = all_alone(alloc, scripts) else {
-        return false;
-    };
+fn run_five<R: Threads + Wait + Sync>(
+    rt: &R,
+    alloc: Global,
+    scripts: &[Script],
+    alone: &[Replies],
+) -> bool {
     for _ in 0..5 {
-        let look = Alone(&alone, 12_800);
-        if run_openly(rt, alloc, &[], scripts, &look) != Some(Ok(true)) {
+        if !are_told_alike(rt, alloc, scripts, alone, 12_800) {
             return false;
         }
     }
-    are_whole(&alone)
+    are_whole(alone)
 }
 
-/// The same of these scripts; `salt` makes those of one test others than those of the next.
-fn are_told_alike<R: Threads + Wait + Sync>(rt: &R, alloc: Global, salt: u8) -> Result<(), Fail> {
-    match scripts_by(alloc, 64, |guest| script_asking(alloc, guest, salt)) {
-        Some(scripts) => check(run_five(rt, alloc, &scripts), "another outcome"),
-        None => Err(Fail::from("no scripts")),
+fn are_told<R: Threads + Wait + Sync>(rt: &R, alloc: Global, salt: u8) -> bool {
+    let Some(scripts) = scripts_of(alloc, salt) else {
+        return false;
+    };
+    match all_alone(alloc, &scripts) {
+        Some(alone) => run_five(rt, alloc, &scripts, &alone),
+        None => false,
     }
 }
 
 #[test]
 fn sixty_four_guests_are_told_what_each_is_told_alone(rt: HostRuntime) -> Result<(), Fail> {
-    are_told_alike(&rt, rt.alloc(), 0)
+    check(are_told(&rt, rt.alloc(), 0), "another outcome")
 }
 
 #[test]
 fn sixty_four_guests_are_told_so_with_second_scripts(rt: HostRuntime) -> Result<(), Fail> {
-    are_told_alike(&rt, rt.alloc(), 1)
+    check(are_told(&rt, rt.alloc(), 1), "another outcome")
 }
 
 #[test]
 fn sixty_four_guests_are_told_so_with_third_scripts(rt: HostRuntime) -> Result<(), Fail> {
-    are_told_alike(&rt, rt.alloc(), 2)
+    check(are_told(&rt, rt.alloc(), 2), "another outcome")
 }
 
 #[test]
 fn sixty_four_guests_are_told_so_with_fourth_scripts(rt: HostRuntime) -> Result<(), Fail> {
-    are_told_alike(&rt, rt.alloc(), 3)
+    check(are_told(&rt, rt.alloc(), 3), "another outcome")
 }

@@ -183,34 +183,26 @@ pub fn script_of(alloc: Global, steps: &[Step]) -> Option<Script> {
 }
 
 /// Whether a script was made, and stands behind these now.
-fn adds_script(scripts: &mut Vec<Script>, script: Option<Script>) -> bool {
+pub fn adds_script(scripts: &mut Vec<Script>, script: Option<Script>) -> bool {
     match script {
         Some(script) => scripts.push(script).is_ok(),
         None => false,
     }
 }
 
-/// A script for each of so many guests, as this makes it.
-pub fn scripts_by<F: Fn(u8) -> Option<Script>>(
-    alloc: Global,
-    guests: u8,
-    make: F,
-) -> Option<Vec<Script>>
-    requires { F.IsAlwaysCallable make }
-{
+/// The scripts of guests, of which each does the steps of a list.
+pub fn scripts_of(alloc: Global, lists: &[&[Step]]) -> Option<Vec<Script>> {
     let mut scripts = Vec::new(alloc);
     let mut made = true;
-    for guest in 0..guests {
-        made = made && adds_script(&mut scripts, make(guest));
+    for steps in lists {
+        made = made && adds_script(&mut scripts, script_of(alloc, *steps));
     }
     if made { Some(scripts) } else { None }
 }
 
-/// The scripts of two guests, of which the first does these steps, and the second those.
-pub fn two_scripts(alloc: Global, first: &[Step], second: &[Step]) -> Option<Vec<Script>> {
-    scripts_by(alloc, 2, |guest| {
-        script_of(alloc, if guest == 0 { first } else { second })
-    })
+/// As many steps that ask for the result.
+pub fn reads(alloc: Global, count: u16) -> Option<Vec<Step>> {
+    vec![in alloc; Step::Outcome; usize::from(count)].ok()
 }
 
 /// The last twelve bytes of a reply: write counter, address, block count, result and type.

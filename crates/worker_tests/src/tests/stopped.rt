@@ -1,8 +1,8 @@
 //! A guest whose device has stopped, beside others that go on.
-use crate::tests::alone::{Replies, all_alone, are_told, steps_of};
+use crate::tests::alone::{Replies, all_alone, are_replies, steps_of};
 use crate::tests::devices::{AVAILABLE, DESCRIPTORS, Other, REPLY, REQUEST, descriptor, outside};
 use crate::tests::runs::{Ending, Look, run_openly};
-use crate::tests::scene::{Step, check, get_write_counter, script_of, scripts_by};
+use crate::tests::scene::{Step, check, get_write_counter, scripts_of};
 use host::{Answer, Stuck};
 use std::alloc::Global;
 use std::sync::Wait;
@@ -28,11 +28,9 @@ static WITH_RESET: [Step; 6] = [
 ];
 
 /// The scripts of three guests, of which guest 1 does these steps.
-fn scripts_of(alloc: Global, second: &[Step]) -> Option<Vec<Script>> {
-    scripts_by(alloc, 3, |guest| match guest {
-        1 => script_of(alloc, second),
-        _ => script_of(alloc, &steps_of(guest)),
-    })
+fn three_scripts(alloc: Global, second: &[Step]) -> Option<Vec<Script>> {
+    let (first, third) = (steps_of(0), steps_of(2));
+    scripts_of(alloc, &[first.as_slice(), second, third.as_slice()])
 }
 
 /// The first three chains have no reply, for this reason, and there are five.
@@ -63,15 +61,15 @@ impl<'a> Look for OneIsStuck<'a> {
         let behind = second.answers.get(3..).unwrap_or(&[]);
         ended.turns() == self.turns
             && are_stuck(&second.answers, self.stuck)
-            && are_told(&first.answers, one)
-            && are_told(behind, two)
-            && are_told(&third.answers, three)
+            && are_replies(&first.answers, one)
+            && are_replies(behind, two)
+            && are_replies(&third.answers, three)
     }
 }
 
 /// What the guests are told alone, guest 1 behind its reset.
 fn told_alone(alloc: Global) -> Option<Vec<Replies>> {
-    match scripts_of(alloc, &WITH_RESET[4..]) {
+    match three_scripts(alloc, &WITH_RESET[4..]) {
         Some(scripts) => all_alone(alloc, &scripts),
         None => None,
     }
@@ -86,7 +84,7 @@ fn is_stuck<R: Threads + Wait + Sync>(
     stuck: Stuck,
     turns: u64,
 ) -> bool {
-    let Some(scripts) = scripts_of(alloc, &WITH_RESET) else {
+    let Some(scripts) = three_scripts(alloc, &WITH_RESET) else {
         return false;
     };
     let Some(alone) = told_alone(alloc) else {

@@ -3,7 +3,7 @@
 use crate::tests::gates::{HoldsOne, HoldsTillSync, TURNS, WaitsInSync, Watch};
 use crate::tests::runs::{Ending, Ends, Look, run, run_openly};
 use crate::tests::scene::{
-    Step, check, formatted, get_write_counter, program_key, tail_of, two_scripts,
+    Step, check, formatted, get_write_counter, program_key, scripts_of, tail_of,
 };
 use disk::HookDisk;
 use host::Answer;
@@ -17,7 +17,7 @@ use workers::{DriverEnd, Served};
 /// A run in which this guest's worker is held, and not in vain.
 fn run_held<R: Threads + Wait + Sync>(rt: &R, alloc: Global, held: u16) -> bool {
     let watch = Watch::new(TURNS);
-    let Some(scripts) = two_scripts(alloc, &[Step::Counter(1)], &[Step::Counter(1)]) else {
+    let Some(scripts) = scripts_of(alloc, &[&[Step::Counter(1)], &[Step::Counter(1)]]) else {
         return false;
     };
     let Some(disk) = formatted(alloc, 2) else {
@@ -38,7 +38,7 @@ fn each_worker_runs_beside_the_other(rt: HostRuntime) -> Result<(), Fail> {
 
 fn run_beside_a_sync<R: Threads + Wait + Sync>(rt: &R, alloc: Global) -> bool {
     let watch = Watch::new(TURNS);
-    let Some(scripts) = two_scripts(alloc, &[Step::Key(0x11)], &[Step::Counter(1)]) else {
+    let Some(scripts) = scripts_of(alloc, &[&[Step::Key(0x11)], &[Step::Counter(1)]]) else {
         return false;
     };
     let Some(disk) = formatted(alloc, 2) else {
@@ -127,7 +127,7 @@ impl Look for TwoServed {
 /// Whether a run in which both guests do these steps is one in which two guests are served. `None`
 /// where there is no such run.
 fn are_served<R: Threads + Wait + Sync>(rt: &R, alloc: Global, steps: &[Step]) -> Option<bool> {
-    let Some(scripts) = two_scripts(alloc, steps, steps) else {
+    let Some(scripts) = scripts_of(alloc, &[steps, steps]) else {
         return None;
     };
     match run_openly(rt, alloc, &[], &scripts, &TwoServed { alloc }) {

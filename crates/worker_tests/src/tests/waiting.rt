@@ -1,10 +1,9 @@
 //! A worker that waits for the history: the first reply of it is another guest's, and needs a sync
 //! that is held back.
 use crate::tests::devices::{AVAILABLE, DESCRIPTORS, Other, REPLY, REQUEST, descriptor, outside};
-use crate::tests::full::script_of_reads;
 use crate::tests::gates::slept_till;
 use crate::tests::runs::{Ending, Look, run};
-use crate::tests::scene::{Step, check, formatted, program_key, script_of, scripts_by};
+use crate::tests::scene::{Step, check, formatted, program_key, reads, scripts_of};
 use crate::tests::threads::{PROGRAMMED, is_reply};
 use disk::{Hook, HookDisk};
 use std::alloc::Global;
@@ -134,14 +133,11 @@ impl Look for BothAnswered {
 }
 
 /// A script of this step, and one of as many reads as a history holds.
-fn scripts_of(alloc: Global, first: Step) -> Option<Vec<Script>> {
-    scripts_by(alloc, 2, |guest| {
-        if guest == 0 {
-            script_of(alloc, &[first])
-        } else {
-            script_of_reads(alloc, SUBMITS)
-        }
-    })
+fn two_scripts(alloc: Global, first: Step) -> Option<Vec<Script>> {
+    match reads(alloc, SUBMITS) {
+        Some(second) => scripts_of(alloc, &[&[first], second.as_slice()]),
+        None => None,
+    }
 }
 
 /// Whether guest 1's worker waits for the history, while the sync of guest 0's key is held back,
@@ -154,7 +150,7 @@ fn run_held<R: Threads + Wait + Clock + Sync>(
     look: BothAnswered,
 ) -> bool {
     let watch = Watch::new(rt);
-    let Some(scripts) = scripts_of(alloc, first) else {
+    let Some(scripts) = two_scripts(alloc, first) else {
         return false;
     };
     let Some(disk) = formatted(alloc, 2) else {
