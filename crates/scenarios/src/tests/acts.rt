@@ -72,6 +72,52 @@ pub enum Move {
     Upgrade(u32, u8),
 }
 
+/// A step that carries no bytes, of some guest.
+#[derive(Clone, Copy)]
+pub enum Turn {
+    Pop,
+    Submit,
+    Collect,
+    Publish,
+    Take,
+    Give,
+    Advance,
+    Settle,
+}
+
+/// That step. A step is made here alone, and where it carries bytes, since its drop is dear to
+/// prove.
+pub fn step_of(guest: u16, turn: Turn) -> Step {
+    match turn {
+        Turn::Pop => Step::Pop(guest),
+        Turn::Submit => Step::Submit(guest),
+        Turn::Collect => Step::Collect(guest),
+        Turn::Publish => Step::Publish(guest),
+        Turn::Take => Step::Take(guest),
+        Turn::Give => Step::Give(guest),
+        Turn::Advance => Step::Advance,
+        Turn::Settle => Step::Settle,
+    }
+}
+
+/// How a host stops.
+#[derive(Clone, Copy)]
+enum Stop {
+    /// Within the store's next call.
+    Within,
+    Between,
+    /// Within this call of an upgrade.
+    Upgrading(u32),
+}
+
+fn stop_of(stop: Stop, filler: Filler) -> Event {
+    match stop {
+        Stop::Within => Event::StopIn(filler),
+        Stop::Between => Event::Stop(filler),
+        Stop::Upgrading(call) => Event::Upgrade(Some((call, filler))),
+    }
+}
+
 /// How far what happens has come. Events come in their order, up to one that is to come in place of
 /// the store's n-th advance.
 #[derive(Clone, Copy)]
@@ -133,18 +179,22 @@ impl Acts {
         true
     }
 
-    pub fn step<S: Stage>(&mut self, stage: &mut S, step: Step) -> bool {
-        self.add(stage, Event::Do(step))
+    pub fn turn<S: Stage>(&mut self, stage: &mut S, guest: u16, turn: Turn) -> bool {
+        self.add(stage, Event::Do(step_of(guest, turn)))
+    }
+
+    fn stop<S: Stage>(&mut self, stage: &mut S, stop: Stop, filler: u8) -> bool {
+        match filler_of(self.alloc, filler) {
+            Some(filler) => self.add(stage, stop_of(stop, filler)),
+            None => false,
+        }
     }
 
     /// The stop in place of the store's next call.
     fn stop_in<S: Stage>(&mut self, stage: &mut S) -> bool {
-        let Some(filler) = filler_of(self.alloc, self.filler) else {
-            return false;
-        };
-        let made = self.add(stage, Event::StopIn(filler));
+        let is_made = self.stop(stage, Stop::Within, self.filler);
         self.has_stopped = true;
-        made
+        is_made
     }
 
     /// One advance less until the stop; answers whether it comes now.
@@ -164,7 +214,7 @@ impl Acts {
         if self.is_due() {
             self.stop_in(stage)
         } else {
-            self.step(stage, Step::Advance) && self.step(stage, Step::Settle)
+            self.turn(stage, 0, Turn::Advance) && self.turn(stage, 0, Turn::Settle)
         }
     }
 
@@ -198,7 +248,7 @@ impl Acts {
                 width: 4,
                 value: *value,
             };
-            if !self.step(stage, Step::Drive(guest, act)) {
+            if !self.add(stage, Event::Do(Step::Drive(guest, act))) {
                 return false;
             }
         }
@@ -208,7 +258,10 @@ impl Acts {
     /// A guest stores bytes into its memory.
     pub fn store<S: Stage>(&mut self, stage: &mut S, guest: u16, at: u64, bytes: &[u8]) -> bool {
         match bytes.to_vec(self.alloc) {
-            Ok(bytes) => self.step(stage, Step::Drive(guest, Act::Store { at, bytes })),
+            Ok(bytes) => self.add(
+                stage,
+                Event::Do(Step::Drive(guest, Act::Store { at, bytes })),
+            ),
             Err(_) => false,
         }
     }
@@ -241,21 +294,7 @@ impl Acts {
             Some(frames) => self.place(stage, guest, &frames),
             None => false,
         };
-        is_placed && self.step(stage, Step::Pop(guest))
-    }
-
-    fn stop<S: Stage>(&mut self, stage: &mut S, filler: u8) -> bool {
-        match filler_of(self.alloc, filler) {
-            Some(filler) => self.add(stage, Event::Stop(filler)),
-            None => false,
-        }
-    }
-
-    fn upgrade<S: Stage>(&mut self, stage: &mut S, call: u32, filler: u8) -> bool {
-        match filler_of(self.alloc, filler) {
-            Some(filler) => self.add(stage, Event::Upgrade(Some((call, filler)))),
-            None => false,
-        }
+        is_placed && self.turn(stage, guest, Turn::Pop)
     }
 
     fn make<S: Stage>(&mut self, stage: &mut S, guest: u16, next: Move) -> bool {
@@ -263,18 +302,18 @@ impl Acts {
             Move::Open => self.add(stage, Event::Open),
             Move::SetUp => self.set_up(stage, guest),
             Move::Submit(asked) => {
-                self.ask(stage, guest, asked) && self.step(stage, Step::Submit(guest))
+                self.ask(stage, guest, asked) && self.turn(stage, guest, Turn::Submit)
             }
             Move::HandOver => {
-                self.step(stage, Step::Take(guest)) && self.step(stage, Step::Give(guest))
+                self.turn(stage, guest, Turn::Take) && self.turn(stage, guest, Turn::Give)
             }
             Move::Advances(times) => self.advances(stage, times),
             Move::Reply => {
-                self.step(stage, Step::Collect(guest)) && self.step(stage, Step::Publish(guest))
+                self.turn(stage, guest, Turn::Collect) && self.turn(stage, guest, Turn::Publish)
             }
             Move::Fail(call) => self.add(stage, Event::Fail(call)),
-            Move::Stop(filler) => self.stop(stage, filler),
-            Move::Upgrade(call, filler) => self.upgrade(stage, call, filler),
+            Move::Stop(filler) => self.stop(stage, Stop::Between, filler),
+            Move::Upgrade(call, filler) => self.stop(stage, Stop::Upgrading(call), filler),
         }
     }
 

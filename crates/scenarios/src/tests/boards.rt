@@ -1,5 +1,5 @@
 //! Boards to which events happen, and what is seen of their guests.
-use crate::tests::acts::Stage;
+use crate::tests::acts::{Stage, Turn, step_of};
 use crate::tests::image::{Image, image_of};
 use crate::tests::scene::board_of;
 use board::{Board, Seen, Step, StepFault};
@@ -32,6 +32,11 @@ impl Table for Board<CutDisk> {
     fn device_seen(&self, guest: u16) -> Option<&Device> {
         self.device_of(guest)
     }
+}
+
+/// What a guest's turn answers.
+pub fn made<B: Table>(board: &mut B, guest: u16, turn: Turn) -> Result<Seen, StepFault> {
+    board.make(&step_of(guest, turn))
 }
 
 /// So many bytes of a guest's memory.

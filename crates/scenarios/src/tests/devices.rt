@@ -1,11 +1,11 @@
 //! Guests whose requests go through their devices: one that resets its device while a reply is on
 //! its way, one that overwrites what was popped, and one that makes its last write.
-use crate::tests::acts::{Acts, Move};
+use crate::tests::acts::{Acts, Move, Turn};
 use crate::tests::asked::Asked;
-use crate::tests::boards::{Deed, Table, Watched, loaded, sight_of};
+use crate::tests::boards::{Deed, Table, Watched, loaded, made, sight_of};
 use crate::tests::image::Image;
 use crate::tests::scene::{Tail, check, has_tail};
-use board::{Seen, Step};
+use board::Seen;
 use mmio_transport::Published;
 use mmio_transport::register::STATUS;
 use std::alloc::Global;
@@ -43,7 +43,7 @@ fn begins<B: Table>(acts: &mut Acts, board: &mut Watched<B>) -> bool {
 fn drops_one<B: Table>(board: &mut B) -> bool {
     let before: Option<[u8; 134]> = loaded(board, 0, 0x3000);
     let dropped = Ok(Seen::Published(Published::Dropped));
-    if board.reply(0).is_none() || board.make(&Step::Publish(0)) != dropped {
+    if board.reply(0).is_none() || made(board, 0, Turn::Publish) != dropped {
         return false;
     }
     let after: Option<[u8; 134]> = loaded(board, 0, 0x3000);
@@ -65,7 +65,7 @@ impl Deed for ResetBeforeReply {
         ];
         begins(&mut acts, board)
             && acts.goes(board, 0, &written)
-            && acts.step(board, Step::Collect(0))
+            && acts.turn(board, 0, Turn::Collect)
             && acts.write_all(board, 0, &[(STATUS, 0)])
             && drops_one(&mut board.board)
             && acts.goes(board, 0, &[Move::SetUp])
@@ -108,7 +108,7 @@ impl Deed for Overwritten {
             && acts.store(board, 0, 0x4000, &[0xff; 512])
             && acts.store(board, 0, 0x1000, &[0xff; 32])
             && acts.store(board, 0, 0x2000, &[0xff; 38])
-            && acts.step(board, Step::Submit(0))
+            && acts.turn(board, 0, Turn::Submit)
             && acts.goes(board, 0, &[Move::Reply]);
         let nonce: Option<[u8; 16]> = loaded(&board.board, 0, 0x8000 + 484);
         let index: Option<[u8; 2]> = loaded(&board.board, 0, 0x3002);

@@ -2,10 +2,10 @@
 mod over;
 
 use super::{check_beside, sight_alone};
-use crate::tests::acts::Acts;
-use crate::tests::boards::{Deed, Table, Watched, loaded};
+use crate::tests::acts::{Acts, Turn};
+use crate::tests::boards::{Deed, Table, Watched, loaded, made};
 use crate::tests::scene::check;
-use board::{Seen, Step, StepFault};
+use board::{Seen, StepFault};
 use chains::ChainFault;
 use mmio_transport::{DeviceFault, Published, register as reg};
 use std::alloc::Global;
@@ -137,25 +137,25 @@ fn check_stopped<B: Table>(board: &mut B) -> bool {
     if !stopped {
         return false;
     }
-    let next = board.make(&Step::Pop(1));
+    let next = made(board, 1, Turn::Pop);
     let needs_reset = StepFault::Device(DeviceFault::NeedsReset);
     next == Err(needs_reset)
 }
 
 /// The job is answered, and there is no other.
 fn check_answered<B: Table>(board: &mut B) -> bool {
-    for step in [Step::Submit(1), Step::Collect(1)] {
-        if board.make(&step) != Ok(Seen::Did) {
-            return false;
-        }
+    if made(board, 1, Turn::Submit) != Ok(Seen::Did)
+        || made(board, 1, Turn::Collect) != Ok(Seen::Did)
+    {
+        return false;
     }
-    let made = board.make(&Step::Publish(1));
-    matches!(made, Ok(Seen::Published(Published::Wrote { .. })))
-        && board.make(&Step::Pop(1)) == Ok(Seen::Nothing)
+    let seen = made(board, 1, Turn::Publish);
+    matches!(seen, Ok(Seen::Published(Published::Wrote { .. })))
+        && made(board, 1, Turn::Pop) == Ok(Seen::Nothing)
 }
 
 fn check_pop<B: Table>(board: &mut B, answer: Answer) -> bool {
-    let popped = board.make(&Step::Pop(1));
+    let popped = made(board, 1, Turn::Pop);
     match answer {
         Ok(()) => { popped == Ok(Seen::Did) && check_answered(board) },
         Err(fault) => {

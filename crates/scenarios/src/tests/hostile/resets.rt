@@ -1,10 +1,10 @@
 //! A guest that resets its device a thousand times, each time with a reply on its way.
 use super::{check_beside, sight_alone};
-use crate::tests::acts::{Acts, Move, SETUP};
+use crate::tests::acts::{Acts, Move, SETUP, Turn};
 use crate::tests::asked::Asked;
-use crate::tests::boards::{Deed, Table, Watched, loaded};
+use crate::tests::boards::{Deed, Table, Watched, loaded, made};
 use crate::tests::scene::check;
-use board::{Seen, Step};
+use board::Seen;
 use mmio_transport::Published;
 use std::alloc::Global;
 use std::test::Fail;
@@ -26,10 +26,10 @@ fn is_in_session<B: Table>(board: &B, session: u64) -> bool {
 fn drops<B: Table>(alloc: Global, board: &mut Watched<B>) -> bool {
     let mut acts = Acts::new(alloc, None, 0);
     let is_collected = acts.goes(board, 1, &[Move::Submit(Asked::Counter(1)), Move::SetUp])
-        && acts.step(board, Step::Collect(1))
+        && acts.turn(board, 1, Turn::Collect)
         && board.board.reply(1).is_some();
-    let made = board.board.make(&Step::Publish(1));
-    is_collected && made == Ok(Seen::Published(Published::Dropped))
+    let seen = made(&mut board.board, 1, Turn::Publish);
+    is_collected && seen == Ok(Seen::Published(Published::Dropped))
 }
 
 fn drops_all<B: Table>(alloc: Global, board: &mut Watched<B>) -> bool {
