@@ -12,9 +12,12 @@ use crate::stop::Stop;
 use crate::system::System;
 use disk::FileDisk;
 use rpmb_client::{Choice, OptionRefusal, find_answer, option_nonce};
-use rpmb_commands::{Refusal, Words, check_own_key, key, perform, report, report_with_advice};
+use rpmb_commands::{
+    AnswerRefusal, Refusal, Words, check_own_key, key, perform, report, report_with_advice,
+};
 use script::read_number;
 use std::io::{BufWriter, Write};
+use std::mem::replace;
 
 /// Tells a refusal in the words of `rpmb`.
 fn told(rt: &HostRuntime, refusal: Refusal<'_>) -> Stop {
@@ -129,22 +132,19 @@ fn ask<W: Write>(
     rt: &HostRuntime,
     place: &Place<'_>,
     disk: FileDisk,
-    words: Words<'_>,
+    words: &mut Words<'_>,
     out: &mut W,
 ) -> Result<(), Stop> {
-    let script = script_of(rt, &words)?;
-    check_end(rt, place, &words, script.as_str())?;
+    let script = script_of(rt, words)?;
+    check_end(rt, place, words, script.as_str())?;
     let mut answers = Vec::new(rt.alloc());
     let ended = place.perform(rt, script.as_str(), disk, &mut answers);
-    let words = Words {
-        command: "explain",
-        ..words
-    };
+    words.command = "explain";
     match ended {
-        Ok(_) => judge(rt, place, &words, answers.as_slice(), out),
+        Ok(_) => judge(rt, place, words, answers.as_slice(), out),
         Err(stop) => {
             if !answers.is_empty() {
-                let _ = command(rt, &words, answers.as_slice(), out);
+                let _ = command(rt, words, answers.as_slice(), out);
             }
             Err(stop)
         }
@@ -156,20 +156,14 @@ fn read<W: Write>(
     rt: &HostRuntime,
     place: &Place<'_>,
     disk: FileDisk,
-    words: Words<'_>,
+    words: &mut Words<'_>,
     out: &mut W,
 ) -> Result<(), Stop> {
-    let words = Words {
-        command: "read",
-        ..words
-    };
+    words.command = "read";
     let mut answers = Vec::new(rt.alloc());
-    let _disk = answer(rt, place, disk, &words, &mut answers)?;
-    let words = Words {
-        command: "read-data",
-        ..words
-    };
-    judge(rt, place, &words, answers.as_slice(), out)
+    let _disk = answer(rt, place, disk, words, &mut answers)?;
+    words.command = "read-data";
+    judge(rt, place, words, answers.as_slice(), out)
 }
 
 /// The write counter that the answer among lines says, where its MAC and its nonce are right.
@@ -209,7 +203,7 @@ fn counter_or_why<W: Write>(
             let explained = judge(rt, place, words, lines.as_bytes(), out);
             let _ = eprintln!(rt; "rpmb: nothing was written: no counter was read under this key");
             match explained {
-                Ok(()) => Err(told(rt, Refusal::NoCounter)),
+                Ok(()) => Err(told(rt, Refusal::Answer(AnswerRefusal::NoCounter))),
                 Err(stop) => Err(stop),
             }
         }
@@ -225,46 +219,52 @@ fn write<W: Write>(
     rt: &HostRuntime,
     place: &Place<'_>,
     disk: FileDisk,
-    words: Words<'_>,
+    words: &mut Words<'_>,
     out: &mut W,
 ) -> Result<(), Stop> {
-    let mut words = Words {
-        command: "read-counter",
-        ..words
-    };
+    words.command = "read-counter";
     let mut lines = Vec::new(rt.alloc());
-    let disk = answer(rt, place, disk, &words, &mut lines)?;
+    let disk = answer(rt, place, disk, words, &mut lines)?;
     let lines = text_of(rt, lines)?;
-    let counter = counter_or_why(rt, place, &mut words, lines.as_str(), out)?;
+    let counter = counter_or_why(rt, place, words, lines.as_str(), out)?;
     let Ok(digits) = format!(in rt.alloc(); "{counter}") else {
         return Err(told(rt, Refusal::NoMemory));
     };
-    let words = Words {
+    let mut words = Words {
         command: "write",
         counter: Some(digits.as_str()),
-        ..words
+        keys: replace(&mut words.keys, Vec::new(rt.alloc())),
+        ..*words
     };
-    ask(rt, place, disk, words, out)
+    ask(rt, place, disk, &mut words, out)
+}
+
+/// Performs an operation on the image of a board.
+fn operate_on<'a, W: Write>(
+    rt: &HostRuntime,
+    place: &Place<'_>,
+    operation: &'a str,
+    words: &mut Words<'a>,
+    out: &mut W,
+) -> Result<(), Stop> {
+    let disk = place.open(rt)?;
+    match operation {
+        "read" => read(rt, place, disk, words, out),
+        "write" => write(rt, place, disk, words, out),
+        _ => {
+            words.command = operation;
+            ask(rt, place, disk, words, out)
+        }
+    }
 }
 
 /// Performs the operation of words that have a nonce.
-fn operate<W: Write>(rt: &HostRuntime, words: Words<'_>, out: &mut W) -> Result<(), Stop> {
+fn operate<W: Write>(rt: &HostRuntime, words: &mut Words<'_>, out: &mut W) -> Result<(), Stop> {
     let (Some(file), Some(operation)) = (words.board, words.operation) else {
         return Err(told(rt, Refusal::Option(OptionRefusal::Incomplete)));
     };
     let place = Place::of(rt, file, words.guest.unwrap_or(""))?;
-    let disk = place.open(rt)?;
-    match operation {
-        "read" => read(rt, &place, disk, words, out),
-        "write" => write(rt, &place, disk, words, out),
-        _ => {
-            let words = Words {
-                command: operation,
-                ..words
-            };
-            ask(rt, &place, disk, words, out)
-        }
-    }
+    operate_on(rt, &place, operation, words, out)
 }
 
 fn operate_once<W: Write>(rt: &HostRuntime, words: Words<'_>, out: &mut W) -> Result<(), Stop> {
@@ -276,11 +276,11 @@ fn operate_once<W: Write>(rt: &HostRuntime, words: Words<'_>, out: &mut W) -> Re
         Ok(nonce) => nonce,
         Err(refusal) => return Err(told(rt, refusal)),
     };
-    let words = Words {
+    let mut words = Words {
         nonce: Some(nonce.as_str()),
         ..words
     };
-    operate(rt, words, out)
+    operate(rt, &mut words, out)
 }
 
 /// Performs an operation on the image of a board, and gives the program's status: 0, or 1 or 3 with

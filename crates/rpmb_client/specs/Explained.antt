@@ -126,32 +126,49 @@ data_digits frame =
 abbrev pub has_stuff : List ℕ → Bool
 has_stuff frame = not (is_zeros (slice_range frame 0 196) 196)
 
-abbrev pub stuff_text : List ℕ → List ℕ
-stuff_text frame = if has_stuff frame then codes ", stuff not zeros" else []
+abbrev pub stuff_text : Bool → List ℕ
+stuff_text stuff = if stuff then codes ", stuff not zeros" else []
 
--- a frame at a place of n, counted from 1, of a reply to a guest
-unfoldable pub place_text : ℕ → ℕ → ℕ → List ℕ
-place_text guest place n =
-    codes "guest " ++ decimal guest ++ codes ", frame " ++ decimal place ++ codes " of "
+-- a frame at a place of n, counted from 1, of a reply to a guest; in a line, or in an object (RFC
+-- 8259): all that stands there between two quotes is printable ASCII without a quote or a backslash,
+-- and so stands there as it is (7)
+unfoldable pub place_told : Bool → ℕ → ℕ → ℕ → List ℕ
+place_told as_json guest place n =
+    if as_json
+    then codes "{\"guest\":" ++ (decimal guest ++ (codes ",\"frame\":" ++ (decimal place
+    ++ (codes ",\"frames\":" ++ decimal n))))
+    else codes "guest " ++ decimal guest ++ codes ", frame " ++ decimal place ++ codes " of "
     ++ decimal n ++ codes ": "
 
-unfoldable pub front_text : List ℕ → List ℕ
-front_text frame =
-    kind_text (req_resp_of frame) ++ codes " 0x" ++ two_bytes 510 frame
-    ++ codes ", result " ++ result_text (result_of frame) ++ codes " 0x" ++ two_bytes 508 frame
+-- its type and result by name, and in four digits; in an object by number and name
+unfoldable pub kinds_told : Bool → List ℕ → List ℕ
+kinds_told as_json frame =
+    let kind = kind_text (req_resp_of frame) in
+    let name = result_text (result_of frame) in
+    if as_json
+    then codes ",\"kind\":\"" ++ (kind ++ (codes "\",\"type\":" ++ (decimal (req_resp_of frame)
+    ++ (codes ",\"result\":\"" ++ (name ++ (codes "\",\"code\":" ++ decimal (result_of frame)))))))
+    else kind ++ codes " 0x" ++ two_bytes 510 frame
+    ++ codes ", result " ++ name ++ codes " 0x" ++ two_bytes 508 frame
 
 -- the reply to a read carries no write counter, and neither does one without a type
 abbrev pub has_counter : ℕ → Bool
 has_counter kind = not (kind == resp_data_read) && not (kind == 0)
 
-unfoldable pub counter_text : List ℕ → List ℕ → List ℕ
-counter_text name frame =
-    if has_counter (req_resp_of frame) then name ++ decimal (write_counter_of frame) else []
+abbrev pub counter_name : Bool → List ℕ
+counter_name as_json = if as_json then codes ",\"counter\":" else codes ", counter "
 
-unfoldable pub fields_text : List ℕ → List ℕ
-fields_text frame =
-    codes ", address " ++ decimal (address_of frame) ++ codes ", blocks "
-    ++ decimal (block_count_of frame)
+unfoldable pub counter_told : Bool → List ℕ → List ℕ
+counter_told as_json frame =
+    if has_counter (req_resp_of frame)
+    then counter_name as_json ++ decimal (write_counter_of frame) else []
+
+-- the other numbers that each frame has
+unfoldable pub fields_told : Bool → ℕ → ℕ → List ℕ
+fields_told as_json address blocks =
+    if as_json
+    then codes ",\"address\":" ++ (decimal address ++ (codes ",\"blocks\":" ++ decimal blocks))
+    else codes ", address " ++ decimal address ++ codes ", blocks " ++ decimal blocks
 
 -- printable ASCII, from a space to a tilde
 abbrev pub is_printable : ℕ → Bool
@@ -168,49 +185,65 @@ is_text bytes =
     nat_lt 0 count && list_all (λ b. b == 0) (slice_range bytes count (length bytes))
 
 -- the text of a block that is one stands at the end of the line, so that it is no word of ours
-unfoldable pub block_text : List ℕ → List ℕ
-block_text bytes =
-    if is_text bytes
-    then codes ", text \"" ++ (slice_range bytes 0 (printable_length bytes) ++ (34 ∷ 10 ∷ []))
-    else 10 ∷ []
+unfoldable pub end_told : Bool → List ℕ → List ℕ
+end_told as_json block =
+    if as_json then 125 ∷ 10 ∷ []
+    else (if is_text block
+    then codes ", text \"" ++ (slice_range block 0 (printable_length block) ++ (34 ∷ 10 ∷ []))
+    else 10 ∷ [])
 
-unfoldable pub checks_text : ℕ → List (List ℕ) → Option (List ℕ) → Option (List ℕ) → List ℕ
-checks_text i frames key asked =
+-- what is judged of a frame, its block, and whether its stuff bytes aren't zeros
+unfoldable pub checks_told : Bool → List ℕ → List ℕ → List ℕ → List ℕ → Bool → List ℕ
+checks_told as_json nonce mac front digits stuff =
+    if as_json
+    then codes ",\"nonce\":\"" ++ (nonce ++ (codes "\",\"mac\":\"" ++ (mac
+    ++ (codes "\",\"data\":\"" ++ (digits ++ (codes "\",\"has_stuff\":"
+    ++ (if stuff then codes "true" else codes "false")))))))
+    else codes ", nonce " ++ nonce ++ codes ", MAC " ++ mac
+    ++ front ++ digits ++ stuff_text stuff
+
+-- of frame i, counted from 0, under a key and a nonce where they are given
+abbrev pub checks_of : Bool → ℕ → List (List ℕ) → Option (List ℕ) → Option (List ℕ) → List ℕ
+checks_of as_json i frames key asked =
     let frame = get_or frames i [] in
-    codes ", nonce " ++ nonce_text asked frame ++ codes ", MAC "
-    ++ mac_text (i + 1 == length frames) key frames frame
-    ++ data_name frame ++ data_digits frame ++ stuff_text frame
+    checks_told as_json (nonce_text asked frame)
+    (mac_text (i + 1 == length frames) key frames frame) (data_name frame) (data_digits frame)
+    (has_stuff frame)
 
--- the line of frame i, counted from 0, under a key and a nonce where they are given
-unfoldable pub frame_line : ℕ → ℕ → List (List ℕ) → Option (List ℕ) → Option (List ℕ) → List ℕ
-frame_line guest i frames key asked =
+-- the line or the object of frame i
+unfoldable pub frame_told : Bool → ℕ → ℕ → List (List ℕ) → Option (List ℕ) → Option (List ℕ)
+    → List ℕ
+frame_told as_json guest i frames key asked =
     let frame = get_or frames i [] in
-    place_text guest (i + 1) (length frames)
-    ++ (front_text frame ++ (counter_text (codes ", counter ") frame ++ (fields_text frame
-    ++ (checks_text i frames key asked ++ block_text (block_data_of frame)))))
+    place_told as_json guest (i + 1) (length frames)
+    ++ (kinds_told as_json frame ++ (counter_told as_json frame
+    ++ (fields_told as_json (address_of frame) (block_count_of frame)
+    ++ (checks_of as_json i frames key asked ++ end_told as_json (block_data_of frame)))))
 
--- the lines of the first i frames
-unfoldable pub frame_lines : ℕ → ℕ → List (List ℕ) → Option (List ℕ) → Option (List ℕ) → List ℕ
-frame_lines guest zero frames key asked = []
-frame_lines guest (suc i) frames key asked =
-    frame_lines guest i frames key asked ++ frame_line guest i frames key asked
+-- those of the first i frames
+unfoldable pub frames_told : Bool → ℕ → ℕ → List (List ℕ) → Option (List ℕ) → Option (List ℕ)
+    → List ℕ
+frames_told as_json guest zero frames key asked = []
+frames_told as_json guest (suc i) frames key asked =
+    frames_told as_json guest i frames key asked ++ frame_told as_json guest i frames key asked
 
--- of no bytes at all, what its request was: one that wants none, or that has no room for a frame
-unfoldable pub no_bytes_line : ℕ → List ℕ
-no_bytes_line guest = codes "guest " ++ decimal guest
+-- of a reply of n bytes that is no whole frames; of no bytes at all, what its request was: one that
+-- wants none, or that has no room for a frame
+unfoldable pub no_frames_told : Bool → ℕ → ℕ → List ℕ
+no_frames_told as_json guest n =
+    if as_json
+    then codes "{\"guest\":" ++ (decimal guest ++ (codes ",\"frames\":0,\"bytes\":" ++ (decimal n
+    ++ (codes "}" ++ 10 ∷ []))))
+    else (if n == 0
+    then codes "guest " ++ decimal guest
     ++ codes ", no frames: its request asked for none (--no-result), or needs WRITABLE 512 or more"
     ++ 10 ∷ []
-
-unfoldable pub some_bytes_line : ℕ → ℕ → List ℕ
-some_bytes_line guest n = codes "guest " ++ decimal guest ++ codes ", " ++ decimal n
-    ++ codes " bytes are no frames" ++ 10 ∷ []
-
-abbrev pub no_frames_line : ℕ → ℕ → List ℕ
-no_frames_line guest n = if n == 0 then no_bytes_line guest else some_bytes_line guest n
+    else codes "guest " ++ decimal guest ++ codes ", " ++ decimal n
+    ++ codes " bytes are no frames" ++ 10 ∷ [])
 
 -- what is said of a reply to a guest
-unfoldable pub reply_lines : ℕ → List ℕ → Option (List ℕ) → Option (List ℕ) → List ℕ
-reply_lines guest reply key asked =
+unfoldable pub reply_told : Bool → ℕ → List ℕ → Option (List ℕ) → Option (List ℕ) → List ℕ
+reply_told as_json guest reply key asked =
     let frames = frames_of reply in
-    if is_whole reply then frame_lines guest (length frames) frames key asked
-    else no_frames_line guest (length reply)
+    if is_whole reply then frames_told as_json guest (length frames) frames key asked
+    else no_frames_told as_json guest (length reply)

@@ -2,7 +2,6 @@ pub mod Made
 pub mod Chain
 pub mod Answer
 pub mod Explained
-pub mod Objects
 pub mod Seen
 pub mod Finding
 pub mod Lines

@@ -5,6 +5,8 @@ use Rattle.rpmb_core.specs.Reply.{joined}
 use Rattle.rpmb_client.specs.Chain.{chain_text}
 use Rattle.rpmb_client.specs.Made.{asking, counter_frame, key_frames, read_frame, result_frame}
 use Rattle.rpmb_client.specs.Made.{write_frames}
+use Rattle.rpmb_client.specs.declared.lines.Request.{Request}
+use Rattle.rpmb_client.specs.declared.lines.Request.TheVariants as request
 
 -- frames, and the room for the frames of the reply
 unfoldable pub request_line : ℕ → List (List ℕ) → ℕ → List ℕ
@@ -22,6 +24,12 @@ read_line guest address count nonce = request_line guest (read_frame address cou
 
 abbrev pub result_line : ℕ → List ℕ
 result_line guest = request_line guest (result_frame ∷ []) 1
+
+abbrev pub line_of_request : ℕ → Request → List ℕ
+line_of_request guest (request.ProgramKey key) = key_line guest key
+line_of_request guest (request.ReadCounter nonce) = counter_line guest nonce
+line_of_request guest (request.Read address count nonce) = read_line guest address count nonce
+line_of_request guest request.Outcome = result_line guest
 
 unfoldable pub write_line : ℕ → List ℕ → ℕ → ℕ → List (List ℕ) → Bool → List ℕ
 write_line guest key counter address blocks asks =

@@ -14,7 +14,7 @@ use script::{first_words, read_bytes, read_number};
 use std::alloc::{AllocError, Global};
 
 /// A reply that a line gives: `used G LEN HEX`.
-#[derive(Debug, Drop)]
+#[derive(Drop)]
 pub struct Used {
     /// The number of the guest.
     pub guest: u64,
@@ -23,7 +23,7 @@ pub struct Used {
 }
 
 /// What a read comes to.
-#[derive(Debug, Drop)]
+#[derive(Drop)]
 pub enum ReadAnswer {
     /// The blocks that were read, one after another: 256 bytes each.
     Blocks(Vec<u8>),

@@ -12,7 +12,7 @@ use crate::answer::{Used, has_nonce, is_whole, read_used};
 use std::alloc::{AllocError, Global};
 
 /// The answer among lines, or how many there are.
-#[derive(Debug, Drop)]
+#[derive(Drop)]
 pub enum Choice {
     /// The answer.
     Answer(Used),

@@ -3,16 +3,13 @@ ghost use Rattle.std.specs.Prelude.{◌≡◌};
 
 use std::alloc::AllocError;
 use std::io;
-use thiserror::Error;
 
 /// Why nothing was made or explained.
-#[derive(Clone, Copy, Debug, PartialEq, Eq, Error)]
+#[derive(Clone, Copy)]
 pub enum ClientFault {
     /// Memory was refused.
-    #[error("NoMemory")]
     NoMemory,
     /// A writer took no more.
-    #[error("FileFault")]
     FileFault,
 }
 

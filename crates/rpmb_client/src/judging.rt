@@ -5,7 +5,7 @@ ghost use Rattle.rpmb_client.specs.Explained.{has_wrong_mac, has_wrong_nonce, is
 ghost use Rattle.rpmb_client.specs.Explained.{has_refusal, is_refused, is_wrong};
 
 use crate::answer::{Used, has_nonce, has_right_mac, is_whole};
-use crate::explaining::{lacks_mac, lacks_nonce};
+use crate::facts::{lacks_mac, lacks_nonce};
 use rpmb_frame::Frame;
 
 fn is_nonce_wrong(nonce: &[u8; 16], frame: &[u8; 512]) -> bool

@@ -5,7 +5,7 @@ ghost use Rattle.rpmb_client.specs.Keys.{key_at, key_for, pairs_of};
 use std::alloc::Global;
 
 /// The key of a guest.
-#[derive(Clone, Copy, Debug)]
+#[derive(Clone, Copy)]
 pub struct GuestKey {
     /// The number of the guest.
     pub guest: u64,
@@ -14,7 +14,7 @@ pub struct GuestKey {
 }
 
 /// The keys of guests, and the key of all other guests.
-#[derive(Debug, Drop)]
+#[derive(Drop)]
 pub struct Keys {
     /// The key of each guest that has one of its own.
     pub own: Vec<GuestKey>,

@@ -3,8 +3,8 @@ ghost use Rattle.std.specs.Prelude.{◌≡◌, ◌<◌, ◌≤◌, ◌+◌, ◌-
 ghost use Rattle.std.specs.Prelude.{length};
 ghost use Rattle.std.specs.Io.KnownBytes.{Appends};
 ghost use Rattle.rpmb_client.specs.Keeping.{KeepsUnless, WritesFirstUnless};
-ghost use Rattle.rpmb_client.specs.Lines.{counter_line, key_line, read_line, request_line};
-ghost use Rattle.rpmb_client.specs.Lines.{result_line, write_line, write_lines, writes_of};
+ghost use Rattle.rpmb_client.specs.Lines.{line_of_request, request_line, write_line, write_lines};
+ghost use Rattle.rpmb_client.specs.Lines.{writes_of};
 
 use crate::chain::write_chain;
 use crate::fault::ClientFault;
@@ -38,67 +38,40 @@ fn write_request<W: Write>(
     }
 }
 
-/// Writes the line that programs the key and asks for the result of that.
-pub fn write_program_key<W: Write>(
+/// A request that is no write.
+#[derive(Clone, Copy)]
+pub enum Request {
+    /// The key is programmed, and the result of that asked for.
+    ProgramKey([u8; 32]),
+    /// The write counter is asked for, with this nonce.
+    ReadCounter([u8; 16]),
+    /// So many blocks from an address on are read, with this nonce.
+    Read(u16, u16, [u8; 16]),
+    /// The result of the last PROGRAM_KEY or DATA_WRITE is asked for.
+    Outcome,
+}
+
+/// Writes the line of one request.
+pub fn write_line<W: Write>(
     alloc: Global,
     guest: u16,
-    key: &[u8; 32],
+    request: Request,
     out: &mut W,
 ) -> Result<(), ClientFault>
     ensures written { OnOk result
-        (Appends (W.contents out.old) (W.contents out.new) (key_line guest key.now)) }
+        (Appends (W.contents out.old) (W.contents out.new) (line_of_request guest request)) }
     ensures silent { IfErr result
         (λ fault. KeepsUnless fault (W.contents out.old) (W.contents out.new)) }
 {
-    write_request(alloc, guest, &program_key(key), 1, out)
-}
-
-/// Writes the line that asks for the write counter.
-pub fn write_read_counter<W: Write>(
-    alloc: Global,
-    guest: u16,
-    nonce: &[u8; 16],
-    out: &mut W,
-) -> Result<(), ClientFault>
-    ensures written { OnOk result
-        (Appends (W.contents out.old) (W.contents out.new) (counter_line guest nonce.now)) }
-    ensures silent { IfErr result
-        (λ fault. KeepsUnless fault (W.contents out.old) (W.contents out.new)) }
-{
-    write_request(alloc, guest, &[read_counter(nonce)], 1, out)
-}
-
-/// Writes the line that reads `count` blocks from an address on.
-pub fn write_read<W: Write>(
-    alloc: Global,
-    guest: u16,
-    address: u16,
-    count: u16,
-    nonce: &[u8; 16],
-    out: &mut W,
-) -> Result<(), ClientFault>
-    ensures written { OnOk result (Appends (W.contents out.old) (W.contents out.new)
-        (read_line guest address count nonce.now)) }
-    ensures silent { IfErr result
-        (λ fault. KeepsUnless fault (W.contents out.old) (W.contents out.new)) }
-{
-    write_request(
-        alloc,
-        guest,
-        &[read_blocks(address, count, nonce)],
-        count,
-        out,
-    )
-}
-
-/// Writes the line that asks for the result of the last PROGRAM_KEY or DATA_WRITE.
-pub fn write_result<W: Write>(alloc: Global, guest: u16, out: &mut W) -> Result<(), ClientFault>
-    ensures written { OnOk result
-        (Appends (W.contents out.old) (W.contents out.new) (result_line guest)) }
-    ensures silent { IfErr result
-        (λ fault. KeepsUnless fault (W.contents out.old) (W.contents out.new)) }
-{
-    write_request(alloc, guest, &[ask_for_result()], 1, out)
+    match request {
+        Request::ProgramKey(key) => write_request(alloc, guest, &program_key(&key), 1, out),
+        Request::ReadCounter(nonce) => write_request(alloc, guest, &[read_counter(&nonce)], 1, out),
+        Request::Read(address, count, nonce) => {
+            let frame = read_blocks(address, count, &nonce);
+            write_request(alloc, guest, &[frame], count, out)
+        }
+        Request::Outcome => write_request(alloc, guest, &[ask_for_result()], 1, out),
+    }
 }
 
 /// Who writes, and where it begins.

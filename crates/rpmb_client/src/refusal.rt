@@ -39,7 +39,7 @@ pub enum Number {
 
 /// Why an option gives no value. Each is told by its name, what was expected, and what stands
 /// there; of a key only how long it is.
-#[derive(Clone, Copy, Debug, Error)]
+#[derive(Clone, Copy, Error)]
 pub enum OptionRefusal<'a> {
     /// The option isn't there.
     #[error("Incomplete: expected another option")]
@@ -71,4 +71,11 @@ pub enum OptionRefusal<'a> {
     /// Memory was refused.
     #[error("NoMemory")]
     NoMemory,
+}
+
+/// As it is told. For the checker: a derived one has an exit for each variant.
+impl<'a> fmt::Debug for OptionRefusal<'a> {
+    fn fmt<W: fmt::Write>(&self, f: &mut fmt::Formatter<W>) -> fmt::Result {
+        write!(f, "{self}")
+    }
 }

@@ -2,7 +2,7 @@
 ghost use Rattle.std.specs.Prelude.{◌≡◌, ◌≤◌, ◌==◌, ◌++◌, ◌∷◌, [], OnOk, codes, length};
 ghost use Rattle.std.specs.Io.KnownBytes.{Appends};
 ghost use Rattle.std.specs.List.{list_all};
-ghost use Rattle.rpmb_client.specs.Explained.{block_text, is_printable, is_text, printable_length};
+ghost use Rattle.rpmb_client.specs.Explained.{end_told, is_printable, is_text, printable_length};
 
 use crate::fault::ClientFault;
 use std::io::Write;
@@ -52,12 +52,21 @@ fn write_quoted<W: Write>(bytes: &[u8], out: &mut W) -> Result<(), ClientFault>
     Ok(())
 }
 
-/// Writes the text of a block that is one, and ends the line.
-#[tactic(auto, unfolding(crate::specs::Explained::block_text))]
-pub(crate) fn write_text<W: Write>(block: &[u8; 256], out: &mut W) -> Result<(), ClientFault>
+/// Ends what is said of a frame: an object, or a line, in which the text of a block that is one
+/// stands last.
+#[tactic(auto, unfolding(crate::specs::Explained::end_told))]
+pub(crate) fn write_end<W: Write>(
+    block: &[u8; 256],
+    as_json: bool,
+    out: &mut W,
+) -> Result<(), ClientFault>
     ensures { OnOk result (Appends (W.contents out.old) (W.contents out.new)
-        (block_text block.now)) }
+        (end_told as_json block.now)) }
 {
+    if as_json {
+        out.write_all(b"}\n")?;
+        return Ok(());
+    }
     if is_text(block) {
         return write_quoted(&block[..printable_length(block)], out);
     }

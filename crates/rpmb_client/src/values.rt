@@ -9,36 +9,28 @@ ghost use Rattle.rpmb_client.specs.Values.{number_said, sized_said};
 use hex::FromHexError;
 use script::read_number;
 use std::alloc::Global;
-use thiserror::Error;
 
 /// Why digits say no bytes, or not as many as are wanted.
-#[derive(Clone, Copy, Debug, Error)]
+#[derive(Clone, Copy)]
 pub enum ValueFault {
     /// Memory was refused.
-    #[error("NoMemory")]
     NoMemory,
     /// They aren't two hex digits for each byte.
-    #[error("BadHex")]
     BadHex(FromHexError),
     /// They say this many bytes, and another number was wanted.
-    #[error("BadLength")]
     BadLength(usize),
 }
 
 /// Why the content of a file says no key.
-#[derive(Clone, Copy, Debug, Error)]
+#[derive(Clone, Copy)]
 pub enum KeyFault {
     /// It has 32 bytes, which may be a key itself, and so are never taken for its digits.
-    #[error("RawKey")]
     RawKey,
     /// A byte order mark stands before its digits.
-    #[error("ByteOrderMark")]
     ByteOrderMark,
     /// A line feed stands in it that isn't its last byte.
-    #[error("SecondLine")]
     SecondLine,
     /// It hasn't just the digits of 32 bytes, behind which a line may end.
-    #[error("BadDigits")]
     BadDigits(ValueFault),
 }
 

@@ -1,5 +1,5 @@
 -- How a refusal is passed on.
-use Rattle.std.proofs.Common.{◌≡◌, Option, Some, IsSome, Result, Ok, Err, IfErr, IsOk, subst, sym}
+use Rattle.std.proofs.Common.{◌≡◌, Result, Ok, Err, IfErr, IsOk, subst}
 use Rattle.std.proofs.Common.{refl}
 use Rattle.std.proofs.lemmas.Result.{err_from_is_err_and}
 use Rattle.std.specs.Result.{IsErrAnd}
@@ -15,9 +15,6 @@ passed r f P is p = let q = err_from_is_err_and r is in rw (q.1, q.2) p
 
 pub is_ok : {T E : Type 0} (a : T) (r : Result T E) → Ok a ≡ r → IsOk r
 is_ok a r is = subst IsOk is refl
-
-pub is_some : {T : Type 0} (a : T) (o : Option T) → o ≡ Some a → IsSome o
-is_some a o is = subst IsSome (sym is) refl
 
 of_writing : (f : ClientFault) → IsOfWriting (refusal_of_fault f)
 of_writing fault.NoMemory = tt

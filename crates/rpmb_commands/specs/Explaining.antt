@@ -8,14 +8,14 @@ use Rattle.std.specs.List.{ends_with, flat_map, list_any, starts_with}
 use Rattle.std.specs.Str.{bytes_eq}
 use Rattle.script.specs.Words.{words_of}
 use Rattle.rpmb_client.specs.Answer.{Used, used_of}
-use Rattle.rpmb_client.specs.Explained.{is_refused, is_wrong, reply_lines}
+use Rattle.rpmb_client.specs.Explained.{is_refused, is_wrong, reply_told}
 use Rattle.rpmb_client.specs.Keys.{key_for}
-use Rattle.rpmb_client.specs.Objects.{reply_objects}
 use Rattle.rpmb_commands.specs.LineObject.{line_object}
 use Rattle.rpmb_commands.specs.KeysSaid.{AddsKeys, KeysSaid, keys_seen, no_keys}
 use Rattle.rpmb_commands.specs.Said.{nonce_of}
 use Rattle.rpmb_commands.specs.declared.counts.Counts.{Counts}
 use Rattle.rpmb_commands.specs.declared.explaining.Judge.{Judge}
+use Rattle.rpmb_commands.specs.declared.refusal.AnswerRefusal.TheVariants as answer
 use Rattle.rpmb_commands.specs.declared.refusal.Refusal.{Refusal}
 use Rattle.rpmb_commands.specs.declared.refusal.Refusal.TheVariants as refusal
 use Rattle.rpmb_commands.specs.declared.words.Words.{Words}
@@ -31,7 +31,7 @@ pub record Judging : Type 0 where
 
 abbrev pub judging_of : Judge → Judging
 judging_of judge =
-    record { keys = keys_seen judge.keys; nonce = judge.nonce; as_json = judge.as_json }
+    record { keys = keys_seen judge.keys.now; nonce = judge.nonce; as_json = judge.as_json }
 
 abbrev pub key_of : Judging → ℕ → Option (List ℕ)
 key_of by guest = key_for by.keys.own by.keys.others guest
@@ -88,14 +88,10 @@ other_told as_json line =
     if as_json then line_object line (is_torn line) (is_of_script line)
     else line ++ (mark_of line ++ 10 ∷ [])
 
-abbrev pub reply_told : Judging → Used → List ℕ
-reply_told by used =
-    if by.as_json then reply_objects used.guest used.reply (key_of by used.guest) by.nonce
-    else reply_lines used.guest used.reply (key_of by used.guest) by.nonce
-
 abbrev pub told_of : Judging → Option Used → List ℕ → List ℕ
 told_of by None line = other_told by.as_json line
-told_of by (Some used) line = reply_told by used
+told_of by (Some used) line =
+    reply_told by.as_json used.guest used.reply (key_of by used.guest) by.nonce
 
 unfoldable pub line_told : Judging → List ℕ → List ℕ
 line_told by line = told_of by (used_of line) line
@@ -166,25 +162,27 @@ SaysAll by given start now wrong refused has_answer =
 
 -- any refusal but those that tell of answers
 abbrev pub IsOther : Refusal → Type 0
-IsOther (refusal.NoReply lines) = ⊥
-IsOther (refusal.WrongAnswer replies wrong doubt) = ⊥
-IsOther (refusal.RefusedAnswer replies refused results) = ⊥
+IsOther (refusal.Answer (answer.NoReply lines)) = ⊥
+IsOther (refusal.Answer (answer.WrongAnswer replies wrong doubt)) = ⊥
+IsOther (refusal.Answer (answer.RefusedAnswer replies refused results)) = ⊥
 IsOther r = Unit {0}
 
 -- a wrong line is told first, then that no reply came, and then a refused request
 abbrev pub told_right : Counts → Result (Unit {0}) Refusal
 told_right counts =
     if nat_lt 0 counts.refused
-    then Err (refusal.RefusedAnswer counts.replies counts.refused counts.results) else Ok tt
+    then Err (refusal.Answer (answer.RefusedAnswer counts.replies counts.refused counts.results))
+    else Ok tt
 
 abbrev pub told_replies : Counts → Result (Unit {0}) Refusal
 told_replies counts =
-    if counts.has_answer then told_right counts else Err (refusal.NoReply counts.lines)
+    if counts.has_answer then told_right counts
+    else Err (refusal.Answer (answer.NoReply counts.lines))
 
 abbrev pub told_counts : Result Counts Refusal → Result (Unit {0}) Refusal
 told_counts (Ok counts) =
     if nat_lt 0 counts.wrong
-    then Err (refusal.WrongAnswer counts.replies counts.wrong counts.doubt)
+    then Err (refusal.Answer (answer.WrongAnswer counts.replies counts.wrong counts.doubt))
     else told_replies counts
 told_counts (Err r) = Err r
 
@@ -193,18 +191,21 @@ abbrev pub AsksNonce : Words → Option (List ℕ) → Type 0
 AsksNonce words None = words.nonce ≡ None
 AsksNonce words (Some nonce) = nonce_of words ≡ Some nonce
 
-pub record IsJudging (gives : List ℕ → List ℕ → Type 0) (words : Words) (by : Judging)
-    : Type 0 where
-  pub keys : AddsKeys gives words.keys.items no_keys by.keys
+-- all lines were told by these keys, and by what the words say
+pub record ExplainsBy (keys : KeysSaid) (words : Words) (given start now : Option (List ℕ))
+    (counts : Counts) : Type 0 where
+  pub by : Judging
+  pub keys_are : by.keys ≡ keys
   pub nonce : AsksNonce words by.nonce
   pub form : by.as_json ≡ words.json
+  pub told : SaysAll by given start now counts.wrong counts.refused counts.has_answer
 
--- by what the words say all lines were told
+-- and the keys are those that the words say
 pub record Explains (gives : List ℕ → List ℕ → Type 0) (words : Words) (given : Option (List ℕ))
     (start now : Option (List ℕ)) (counts : Counts) : Type 0 where
-  pub by : Judging
-  pub by_is : IsJudging gives words by
-  pub told : SaysAll by given start now counts.wrong counts.refused counts.has_answer
+  pub keys : KeysSaid
+  pub keys_are : AddsKeys gives words.keys.items no_keys keys
+  pub told : ExplainsBy keys words given start now counts
 
 -- It ends by what was found in them; with any other refusal nothing is said of what it printed.
 pub record ExplainDoes (gives : List ℕ → List ℕ → Type 0) (words : Words)

@@ -1,99 +1,57 @@
--- The lines of one request that the making commands print, by their words.
-use Rattle.std.specs.Prelude.{ℕ, ◌≡◌, List, Option, Some, IsSome, Result, Ok, Err}
-use Rattle.std.specs.Prelude.{IfErr, IsOk, OnOk}
+-- The line of one request that a making command prints, by its words.
+use Rattle.std.specs.Prelude.{ℕ, ◌≡◌, List, Option, Some, Result, Ok, Err, IfErr, IsOk, OnOk}
 use Rattle.std.specs.Io.KnownBytes.{Appends}
-use Rattle.rpmb_client.specs.Lines.{counter_line, key_line, read_line, result_line}
+use Rattle.rpmb_client.specs.Lines.{line_of_request}
+use Rattle.rpmb_client.specs.declared.lines.Request.{Request}
+use Rattle.rpmb_client.specs.declared.lines.Request.TheVariants as request
 use Rattle.rpmb_commands.specs.KeySaid.{IsWhyNoKeySaid, SaysKey}
 use Rattle.rpmb_commands.specs.Refusing.{IsOfWriting, KeepsUnless}
 use Rattle.rpmb_commands.specs.Said.{IsWhyNonce, guest_said, key_word, nonce_of, range_said}
+use Rattle.rpmb_commands.specs.declared.asked.Making.{Making}
+use Rattle.rpmb_commands.specs.declared.asked.Making.TheVariants as making
 use Rattle.rpmb_commands.specs.declared.refusal.Refusal.{Refusal}
 use Rattle.rpmb_commands.specs.declared.words.Words.{Words}
 
--- 1. program-key
+-- the request that a command makes has the values that its words say
+abbrev pub Requests : (List ℕ → List ℕ → Type 0) → Making → Words → Request → Type 0
+Requests gives making.ProgramKey words (request.ProgramKey key) = SaysKey gives (key_word words) key
+Requests gives making.ReadCounter words (request.ReadCounter nonce) = nonce_of words ≡ Some nonce
+Requests gives making.Read words (request.Read address count nonce) =
+    (range_said words ≡ Ok (address, count)) × (nonce_of words ≡ Some nonce)
+Requests gives making.Outcome words request.Outcome = Unit {0}
+Requests gives making words other = ⊥
 
-pub record KeyLine (gives : List ℕ → List ℕ → Type 0) (words : Words) (start now : Option (List ℕ))
-    : Type 0 where
+-- why the words of a read say none: the first of these that is so
+pub data IsWhyNoRead (words : Words) (r : Refusal) : Type 0 where
+  read_range : range_said words ≡ Err r → IsWhyNoRead words r
+  read_nonce : IsOk (range_said words) → IsWhyNonce words r → IsWhyNoRead words r
+
+abbrev pub IsWhyNoRequest : (List ℕ → List ℕ → Type 0) → Making → Words → Refusal → Type 0
+IsWhyNoRequest gives making.ProgramKey words r = IsWhyNoKeySaid gives (key_word words) r
+IsWhyNoRequest gives making.ReadCounter words r = IsWhyNonce words r
+IsWhyNoRequest gives making.Read words r = IsWhyNoRead words r
+IsWhyNoRequest gives making.Outcome words r = ⊥
+
+pub record MakesLine (gives : List ℕ → List ℕ → Type 0) (making : Making) (words : Words)
+    (start now : Option (List ℕ)) : Type 0 where
   pub guest : ℕ
-  pub key : List ℕ
+  pub request : Request
   pub guest_is : guest_said words ≡ Ok guest
-  pub key_is : SaysKey gives (key_word words) key
-  pub printed : Appends start now (key_line guest key)
+  pub request_is : Requests gives making words request
+  pub printed : Appends start now (line_of_request guest request)
 
 -- why it isn't printed: the first of these that is so
-pub data WhyNoKeyLine (gives : List ℕ → List ℕ → Type 0) (words : Words) (r : Refusal)
-    : Type 0 where
-  key_guest : guest_said words ≡ Err r → WhyNoKeyLine gives words r
-  key_key : IsOk (guest_said words) → IsWhyNoKeySaid gives (key_word words) r
-      → WhyNoKeyLine gives words r
-  key_unwritten : IsOk (guest_said words) → (key : List ℕ) → SaysKey gives (key_word words) key
-      → IsOfWriting r → WhyNoKeyLine gives words r
+pub data WhyNoLine (gives : List ℕ → List ℕ → Type 0) (making : Making) (words : Words)
+    (r : Refusal) : Type 0 where
+  line_guest : guest_said words ≡ Err r → WhyNoLine gives making words r
+  line_request : IsOk (guest_said words) → IsWhyNoRequest gives making words r
+      → WhyNoLine gives making words r
+  line_unwritten : IsOk (guest_said words) → (request : Request)
+      → Requests gives making words request → IsOfWriting r → WhyNoLine gives making words r
 
-pub record ProgramKeyDoes (gives : List ℕ → List ℕ → Type 0) (words : Words)
+pub record MakeDoes (gives : List ℕ → List ℕ → Type 0) (making : Making) (words : Words)
     (start : Option (List ℕ)) (ended : Result (Unit {0}) Refusal) (now : Option (List ℕ))
     : Type 0 where
-  pub printed : OnOk ended (KeyLine gives words start now)
-  pub refused : IfErr ended (WhyNoKeyLine gives words)
-  pub silent : IfErr ended (λ r. KeepsUnless r start now)
-
--- 2. read-counter
-
-pub record CounterLine (words : Words) (start now : Option (List ℕ)) : Type 0 where
-  pub guest : ℕ
-  pub nonce : List ℕ
-  pub guest_is : guest_said words ≡ Ok guest
-  pub nonce_is : nonce_of words ≡ Some nonce
-  pub printed : Appends start now (counter_line guest nonce)
-
-pub data WhyNoCounterLine (words : Words) (r : Refusal) : Type 0 where
-  counter_guest : guest_said words ≡ Err r → WhyNoCounterLine words r
-  counter_nonce : IsOk (guest_said words) → IsWhyNonce words r → WhyNoCounterLine words r
-  counter_unwritten : IsOk (guest_said words) → IsSome (nonce_of words) → IsOfWriting r
-      → WhyNoCounterLine words r
-
-pub record ReadCounterDoes (words : Words) (start : Option (List ℕ))
-    (ended : Result (Unit {0}) Refusal) (now : Option (List ℕ)) : Type 0 where
-  pub printed : OnOk ended (CounterLine words start now)
-  pub refused : IfErr ended (WhyNoCounterLine words)
-  pub silent : IfErr ended (λ r. KeepsUnless r start now)
-
--- 3. read
-
-pub record ReadLine (words : Words) (start now : Option (List ℕ)) : Type 0 where
-  pub guest : ℕ
-  pub range : ℕ × ℕ
-  pub nonce : List ℕ
-  pub guest_is : guest_said words ≡ Ok guest
-  pub range_is : range_said words ≡ Ok range
-  pub nonce_is : nonce_of words ≡ Some nonce
-  pub printed : Appends start now (read_line guest range.0 range.1 nonce)
-
-pub data WhyNoReadLine (words : Words) (r : Refusal) : Type 0 where
-  read_guest : guest_said words ≡ Err r → WhyNoReadLine words r
-  read_range : IsOk (guest_said words) → range_said words ≡ Err r → WhyNoReadLine words r
-  read_nonce : IsOk (guest_said words) → IsOk (range_said words) → IsWhyNonce words r
-      → WhyNoReadLine words r
-  read_unwritten : IsOk (guest_said words) → IsOk (range_said words) → IsSome (nonce_of words)
-      → IsOfWriting r → WhyNoReadLine words r
-
-pub record ReadDoes (words : Words) (start : Option (List ℕ))
-    (ended : Result (Unit {0}) Refusal) (now : Option (List ℕ)) : Type 0 where
-  pub printed : OnOk ended (ReadLine words start now)
-  pub refused : IfErr ended (WhyNoReadLine words)
-  pub silent : IfErr ended (λ r. KeepsUnless r start now)
-
--- 4. result
-
-pub record ResultLine (words : Words) (start now : Option (List ℕ)) : Type 0 where
-  pub guest : ℕ
-  pub guest_is : guest_said words ≡ Ok guest
-  pub printed : Appends start now (result_line guest)
-
-pub data WhyNoResultLine (words : Words) (r : Refusal) : Type 0 where
-  result_guest : guest_said words ≡ Err r → WhyNoResultLine words r
-  result_unwritten : IsOk (guest_said words) → IsOfWriting r → WhyNoResultLine words r
-
-pub record ResultDoes (words : Words) (start : Option (List ℕ))
-    (ended : Result (Unit {0}) Refusal) (now : Option (List ℕ)) : Type 0 where
-  pub printed : OnOk ended (ResultLine words start now)
-  pub refused : IfErr ended (WhyNoResultLine words)
+  pub printed : OnOk ended (MakesLine gives making words start now)
+  pub refused : IfErr ended (WhyNoLine gives making words)
   pub silent : IfErr ended (λ r. KeepsUnless r start now)

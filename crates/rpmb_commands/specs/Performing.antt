@@ -6,11 +6,12 @@ use Rattle.std.specs.Str.{bytes_eq}
 use Rattle.std.specs.Io.KnownBytes.{Keeps}
 use Rattle.rpmb_commands.specs.Explaining.{ExplainDoes}
 use Rattle.rpmb_commands.specs.ReadingData.{ReadDataDoes}
-use Rattle.rpmb_commands.specs.Making.{ProgramKeyDoes, ReadCounterDoes, ReadDoes, ResultDoes}
+use Rattle.rpmb_commands.specs.Making.{MakeDoes}
 use Rattle.rpmb_commands.specs.Refusing.{refusal_status}
 use Rattle.rpmb_commands.specs.Writing.{WriteDoes}
 use Rattle.rpmb_commands.specs.declared.asked.Asked.{Asked}
 use Rattle.rpmb_commands.specs.declared.asked.Asked.TheVariants as asked
+use Rattle.rpmb_commands.specs.declared.asked.Making.TheVariants as making
 use Rattle.rpmb_commands.specs.declared.refusal.Refusal.{Refusal}
 use Rattle.rpmb_commands.specs.declared.refusal.Refusal.TheVariants as refusal
 use Rattle.rpmb_commands.specs.declared.words.Words.{Words}
@@ -18,11 +19,11 @@ use Rattle.rpmb_commands.specs.declared.words.Words.{Words}
 -- the command of a name
 unfoldable pub asked_of : List ℕ → Asked
 asked_of name =
-    if bytes_eq name (codes "program-key") then asked.ProgramKey
-    else (if bytes_eq name (codes "read-counter") then asked.ReadCounter
+    if bytes_eq name (codes "program-key") then asked.Make making.ProgramKey
+    else (if bytes_eq name (codes "read-counter") then asked.Make making.ReadCounter
     else (if bytes_eq name (codes "write") then asked.Write
-    else (if bytes_eq name (codes "read") then asked.Read
-    else (if bytes_eq name (codes "result") then asked.Outcome
+    else (if bytes_eq name (codes "read") then asked.Make making.Read
+    else (if bytes_eq name (codes "result") then asked.Make making.Outcome
     else (if bytes_eq name (codes "explain") then asked.Explain
     else (if bytes_eq name (codes "read-data") then asked.ReadData
     else (if bytes_eq name (codes "check") then asked.Check
@@ -31,12 +32,9 @@ asked_of name =
 -- What a command has done, that was given these lines. Nothing is said here of `check`.
 abbrev pub Does : (List ℕ → List ℕ → Type 0) → Asked → Words → (given start : Option (List ℕ))
     → Result (Unit {0}) Refusal → Option (List ℕ) → Type 0
-Does gives asked.ProgramKey words given start ended now =
-    ProgramKeyDoes gives words start ended now
-Does gives asked.ReadCounter words given start ended now = ReadCounterDoes words start ended now
+Does gives (asked.Make making) words given start ended now =
+    MakeDoes gives making words start ended now
 Does gives asked.Write words given start ended now = WriteDoes gives words start ended now
-Does gives asked.Read words given start ended now = ReadDoes words start ended now
-Does gives asked.Outcome words given start ended now = ResultDoes words start ended now
 Does gives asked.Explain words given start ended now =
     ExplainDoes gives words given start ended now
 Does gives asked.ReadData words given start ended now =

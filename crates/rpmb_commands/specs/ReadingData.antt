@@ -17,6 +17,7 @@ use Rattle.rpmb_commands.specs.Explaining.{IsCut}
 use Rattle.rpmb_commands.specs.KeySaid.{IsWhyNoKeySaid, SaysKey}
 use Rattle.rpmb_commands.specs.Refusing.{IsOfReading, KeepsUnless}
 use Rattle.rpmb_commands.specs.Said.{IsWhyNonce, key_word, nonce_of, or_refusal}
+use Rattle.rpmb_commands.specs.declared.refusal.AnswerRefusal.TheVariants as answer
 use Rattle.rpmb_commands.specs.declared.refusal.Refusal.{Refusal}
 use Rattle.rpmb_commands.specs.declared.refusal.Refusal.TheVariants as refusal
 use Rattle.rpmb_commands.specs.declared.words.Words.{Words}
@@ -73,23 +74,26 @@ replies_in asked text = replies_of asked (lines_of text)
 pub data WhyNoAnswer (nonce text : List ℕ) (r : Refusal) : Type 0 where
   answer_unread : IsOfReading r → WhyNoAnswer nonce text r
   answer_none : answer_in nonce text ≡ None
-      → r ≡ refusal.NoAnswer (counted (replies_in None text)) (counted (replies_in (Some nonce) text))
+      → r ≡ refusal.Answer (answer.NoAnswer (counted (replies_in None text))
+      (counted (replies_in (Some nonce) text)))
       → WhyNoAnswer nonce text r
 
 -- why a MAC isn't right: it is wrong, or there is none for want of a key
 abbrev pub no_right_mac : Bool → Refusal
-no_right_mac is_wrong = if is_wrong then refusal.WrongMac else refusal.NoKey
+no_right_mac is_wrong = refusal.Answer (if is_wrong then answer.WrongMac else answer.NoKey)
 
 -- how a read that gives no blocks is told, of a key and a reply
 abbrev pub IsTold : List ℕ → List ℕ → Read → Refusal → Type 0
 IsTold key reply (blocks all) r = ⊥
-IsTold key reply no_frames r = r ≡ refusal.NoFrames (length reply)
+IsTold key reply no_frames r = r ≡ refusal.Answer (answer.NoFrames (length reply))
 IsTold key reply wrong_mac r = r ≡ no_right_mac (is_wrong reply (Some key) None)
-IsTold key reply wrong_nonce r = r ≡ refusal.WrongNonce
+IsTold key reply wrong_nonce r = r ≡ refusal.Answer answer.WrongNonce
 IsTold key reply (other_response kind) r =
-    (text : Bor (List ℕ)) × (r ≡ refusal.OtherResponse text) × (text.now ≡ kind_text kind)
+    (text : Bor (List ℕ)) × (r ≡ refusal.Answer (answer.OtherResponse text))
+    × (text.now ≡ kind_text kind)
 IsTold key reply (refused code) r =
-    (text : Bor (List ℕ)) × (r ≡ refusal.Refused text) × (text.now ≡ result_text code)
+    (text : Bor (List ℕ)) × (r ≡ refusal.Answer (answer.Refused text))
+    × (text.now ≡ result_text code)
 
 pub data WhyNotRead (key nonce reply : List ℕ) (r : Refusal) : Type 0 where
   read_memory : r ≡ refusal.NoMemory → WhyNotRead key nonce reply r
@@ -105,7 +109,7 @@ pub data WhyNoBlocks (key nonce text : List ℕ) (r : Refusal) : Type 0 where
 pub data WhyNotSoMany (word : Bor (List ℕ)) (all : List ℕ) (r : Refusal) : Type 0 where
   many_number : length_said word ≡ Err r → WhyNotSoMany word all r
   many_short : (n : ℕ) → length_said word ≡ Ok n → length all < n
-      → r ≡ refusal.TooShort n (length all) → WhyNotSoMany word all r
+      → r ≡ refusal.Answer (answer.TooShort n (length all)) → WhyNotSoMany word all r
 
 abbrev pub WhyNotFirst : Option (Bor (List ℕ)) → List ℕ → Refusal → Type 0
 WhyNotFirst None all r = ⊥

@@ -5,6 +5,7 @@ use Rattle.rpmb_client.specs.declared.refusal.OptionRefusal.{OptionRefusal}
 use Rattle.rpmb_client.specs.declared.refusal.OptionRefusal.TheVariants as option
 use Rattle.rpmb_client.specs.declared.fault.ClientFault.{ClientFault}
 use Rattle.rpmb_client.specs.declared.fault.ClientFault.TheVariants as fault
+use Rattle.rpmb_commands.specs.declared.refusal.AnswerRefusal.TheVariants as answer
 use Rattle.rpmb_commands.specs.declared.refusal.Refusal.{Refusal}
 use Rattle.rpmb_commands.specs.declared.refusal.Refusal.TheVariants as refusal
 
@@ -42,6 +43,6 @@ told_as (Err f) = Err (refusal_of_fault f)
 
 -- the status of a command that is refused: 3 where only requests were, and all answers are right
 abbrev pub refusal_status : Refusal → ℕ
-refusal_status (refusal.RefusedAnswer replies refused results) = 3
-refusal_status (refusal.Refused result) = 3
+refusal_status (refusal.Answer (answer.RefusedAnswer replies refused results)) = 3
+refusal_status (refusal.Answer (answer.Refused result)) = 3
 refusal_status r = 1

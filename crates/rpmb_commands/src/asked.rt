@@ -2,19 +2,26 @@
 ghost use Rattle.std.specs.Prelude.{◌≡◌};
 ghost use Rattle.rpmb_commands.specs.Performing.{asked_of};
 
+/// The request whose line a command makes.
+#[derive(Clone, Copy)]
+pub enum Making {
+    /// One that programs a key.
+    ProgramKey,
+    /// One for the write counter.
+    ReadCounter,
+    /// One that reads blocks.
+    Read,
+    /// One for the result of a key or a write.
+    Outcome,
+}
+
 /// What a command is to do.
 #[derive(Clone, Copy)]
 pub enum Asked {
-    /// Make the line that programs a key.
-    ProgramKey,
-    /// Make the line that asks for the write counter.
-    ReadCounter,
+    /// Make the line of one request.
+    Make(Making),
     /// Make the lines that write blocks.
     Write,
-    /// Make the line that reads blocks.
-    Read,
-    /// Make the line that asks for the result of a key or a write.
-    Outcome,
     /// Say what replies are.
     Explain,
     /// Write the blocks of a read.
@@ -31,11 +38,11 @@ pub fn asked_of(name: &str) -> Asked
     ensures { result ≡ asked_of name.now }
 {
     match name {
-        "program-key" => Asked::ProgramKey,
-        "read-counter" => Asked::ReadCounter,
+        "program-key" => Asked::Make(Making::ProgramKey),
+        "read-counter" => Asked::Make(Making::ReadCounter),
         "write" => Asked::Write,
-        "read" => Asked::Read,
-        "result" => Asked::Outcome,
+        "read" => Asked::Make(Making::Read),
+        "result" => Asked::Make(Making::Outcome),
         "explain" => Asked::Explain,
         "read-data" => Asked::ReadData,
         "check" => Asked::Check,

@@ -3,11 +3,11 @@ ghost use Rattle.std.specs.Prelude.{◌≡◌, ◌≢◌, ◌≤◌, ℕ, length
 ghost use Rattle.intent_slots.specs.Layout.{capacities_of};
 ghost use Rattle.rpmb_commands.specs.BoardImage.{IsImageOf};
 
-use crate::refusal::Refusal;
+use crate::refusal::{Refusal, flawed};
 use crate::source::{Front, Source, SourceError};
 use intent_slots::{HeaderFault, Layout};
 use rpmb_frame::BoardConfig;
-use std::alloc::{AllocError, Global};
+use std::alloc::Global;
 
 /// How many bytes of an image say which version it is of: the last of them does.
 const VERSION_FRONT: u64 = 513;
@@ -23,8 +23,6 @@ enum Found {
     NotExpanded,
     /// An image of the board, of this version.
     Image(u8),
-    /// A file without a byte.
-    Empty,
     /// A file that begins as an image of the board, and has so many bytes in place of as many.
     OtherLength(u64, u64),
     /// No image of the board, for this reason.
@@ -39,7 +37,7 @@ fn found_of(board: &BoardConfig, front: &[u8], size: u64) -> Found
         → (version : ℕ) → ¬ IsImageOf (capacities_of board.now) front.now size version }
 {
     if front.len() < 513 && size == 0 {
-        return Found::Empty;
+        return Found::NoImage("has no byte; if there never was an image, rpmbd format makes it");
     }
     if front.len() < 513 {
         return Found::NoImage("has too few bytes for one");
@@ -77,52 +75,38 @@ fn found_at<S: Source>(alloc: Global, source: &S, board: &BoardConfig, path: &st
     }
 }
 
-/// What is said behind the path of an image, or of one that isn't made yet; else why it is none.
-fn words_of(alloc: Global, found: Found) -> Result<Result<String, String>, AllocError> {
-    Ok(match found {
-        Found::NoFile => Ok(String::from_str(
-            alloc,
+/// What is said behind the path of what is no wrong image.
+fn state_of(found: Found) -> &'static str {
+    match found {
+        Found::NoFile =>
             ", which isn't there, seen from the folder that you are in: if there never was one, \
              rpmbd format makes it there",
-        )?),
-        Found::NoFolder => Ok(String::from_str(
-            alloc,
+        Found::NoFolder =>
             ", whose folder isn't there, seen from the one that you are in: make that, or mend the \
              path",
-        )?),
-        Found::NotExpanded => Ok(String::from_str(
-            alloc,
+        Found::NotExpanded =>
             ", which isn't there: no ~ and no $ is expanded in a board file; write the whole path",
-        )?),
-        Found::Image(version) => Ok(format!(in alloc; " of version {version}")?),
-        Found::Empty => Err(String::from_str(
-            alloc,
-            "has no byte; if there never was an image, rpmbd format makes it",
-        )?),
-        Found::OtherLength(length, whole) => {
-            Err(format!(in alloc; "has {length} bytes, an image of this board {whole}")?)
-        }
-        Found::NoImage(why) => Err(String::from_str(alloc, why)?),
-    })
+        Found::Image(2) => " of version 2",
+        _ => " of version 1",
+    }
 }
 
-/// The path of an image and what is said of it. Refused where it is there and none of this board.
-pub(crate) fn check_image<'a, 'b, S: Source>(
+/// What is said behind the path of an image, which may be none that is made yet. Refused for the
+/// flaw where it is there and none of this board.
+pub(crate) fn check_image<'a, S: Source>(
     alloc: Global,
     source: &S,
     file: &'a str,
     board: &BoardConfig,
-    image: &'b str,
-) -> Result<(&'b str, String), Refusal<'a>> {
-    let found = found_at(alloc, source, board, image);
-    let Ok(words) = words_of(alloc, found) else {
-        return Err(Refusal::NoMemory);
+    image: &str,
+    flaw: &mut String,
+) -> Result<&'static str, Refusal<'a>> {
+    let words = match found_at(alloc, source, board, image) {
+        Found::NoImage(why) => format!(in alloc; "{image:?} {why}"),
+        Found::OtherLength(length, whole) => {
+            format!(in alloc; "{image:?} has {length} bytes, an image of this board {whole}")
+        }
+        found => return Ok(state_of(found)),
     };
-    match words {
-        Ok(state) => Ok((image, state)),
-        Err(why) => match format!(in alloc; "{image:?} {why}") {
-            Ok(words) => Err(Refusal::BadImage(file, words)),
-            Err(_) => Err(Refusal::NoMemory),
-        },
-    }
+    Err(flawed(words, Refusal::BadImage(file), flaw))
 }

@@ -1,7 +1,7 @@
 //! The command that says whether `rpmbd` reads a board file and a script.
 use crate::board_image::check_image;
-use crate::refusal::Refusal;
-use crate::source::{BOARD_FILE, SCRIPT_FILE, Source, text_of};
+use crate::refusal::{Refusal, flawed};
+use crate::source::{BOARD_FILE, SCRIPT_FILE, Source, content_of};
 use crate::words::Words;
 use board_file::{BoardError, read_board};
 use rpmb_client::OptionRefusal;
@@ -17,26 +17,45 @@ const LINE_BYTES: usize = 134_217_760;
 
 const LONG_LINE: &str = "has a line of 134217760 bytes and more, and is no script";
 
-/// The board of a file, and the path of its image, where it names one.
-fn check_board<'a, S: Source>(
-    alloc: Global,
-    source: &S,
+/// A board, its file, and the path of its image, where it names one.
+#[derive(Drop)]
+struct Board<'a> {
     file: &'a str,
-) -> Result<(BoardConfig, Option<String>), Refusal<'a>> {
-    let text = text_of(alloc, source, file, BOARD_FILE)?;
-    match read_board(alloc, text.as_str()) {
-        Ok(board) => Ok(board),
-        Err(BoardError::BadBoard(flaw)) => Err(Refusal::BadBoard(file, flaw)),
+    config: BoardConfig,
+    image: Option<String>,
+}
+
+fn board_in<'a>(
+    alloc: Global,
+    file: &'a str,
+    bytes: &[u8],
+    flaw: &mut String,
+) -> Result<Board<'a>, Refusal<'a>> {
+    let Ok(text) = str::from_utf8(bytes) else {
+        return Err(Refusal::NoText(file));
+    };
+    match read_board(alloc, text) {
+        Ok((config, image)) => Ok(Board {
+            file,
+            config,
+            image,
+        }),
+        Err(BoardError::BadBoard(words)) => {
+            *flaw = words;
+            Err(Refusal::BadBoard(file))
+        }
         Err(BoardError::NoMemory) => Err(Refusal::NoMemory),
     }
 }
 
-/// The refusal of the script of a file for its line of this number.
-fn bad_line<'a>(alloc: Global, file: &'a str, line: usize, flaw: &str) -> Refusal<'a> {
-    match format!(in alloc; "line {line}: {flaw}") {
-        Ok(words) => Refusal::BadScript(file, words),
-        Err(_) => Refusal::NoMemory,
-    }
+fn check_board<'a, S: Source>(
+    alloc: Global,
+    source: &S,
+    file: &'a str,
+    flaw: &mut String,
+) -> Result<Board<'a>, Refusal<'a>> {
+    let bytes = content_of(alloc, source, file, BOARD_FILE)?;
+    board_in(alloc, file, bytes.as_slice(), flaw)
 }
 
 /// How many bytes the memory has of a guest beyond whose memory a line stores.
@@ -52,16 +71,15 @@ fn check_stores<'a>(
     file: &'a str,
     board: &BoardConfig,
     lines: &[Line],
+    flaw: &mut String,
 ) -> Result<(), Refusal<'a>> {
     let mut number = 0usize;
     for line in lines {
         number = number.saturating_add(1);
         if let Some(memory) = left_memory(board, line) {
-            let text = "the store reaches beyond its guest's memory";
-            return match format!(in alloc; "{text}, which has {memory} bytes") {
-                Ok(flaw) => Err(bad_line(alloc, file, number, flaw.as_str())),
-                Err(_) => Err(Refusal::NoMemory),
-            };
+            let text = "the store reaches beyond its guest's memory, which has";
+            let words = format!(in alloc; "line {number}: {text} {memory} bytes");
+            return Err(flawed(words, Refusal::BadScript(file), flaw));
         }
     }
     Ok(())
@@ -72,11 +90,13 @@ fn check_text<'a>(
     file: &'a str,
     text: &str,
     board: &BoardConfig,
+    flaw: &mut String,
 ) -> Result<(), Refusal<'a>> {
     match read_script(alloc, text, board.guests().len() as u16) {
-        Ok(lines) => check_stores(alloc, file, board, lines.as_slice()),
-        Err(ScriptError::BadScript { line, flaw }) => {
-            Err(bad_line(alloc, file, line, flaw.as_str()))
+        Ok(lines) => check_stores(alloc, file, board, lines.as_slice(), flaw),
+        Err(ScriptError::BadScript { line, flaw: why }) => {
+            let words = format!(in alloc; "line {line}: {why}");
+            Err(flawed(words, Refusal::BadScript(file), flaw))
         }
         Err(ScriptError::NoMemory) => Err(Refusal::NoMemory),
     }
@@ -90,26 +110,64 @@ fn is_cut(script: &str) -> bool {
     }
 }
 
-/// Refused where a line has more bytes than `rpmbd run` takes in one.
-fn check_lengths<'a>(file: &'a str, text: &str) -> Result<(), Refusal<'a>> {
+/// Whether a script that is read may have been cut within its last line. Refused, too, where a line
+/// has more bytes than `rpmbd run` takes in one.
+fn check_lines<'a>(
+    alloc: Global,
+    file: &'a str,
+    bytes: &[u8],
+    board: &BoardConfig,
+    flaw: &mut String,
+) -> Result<bool, Refusal<'a>> {
+    let Ok(text) = str::from_utf8(bytes) else {
+        return Err(Refusal::NoText(file));
+    };
     if text.split('\n').any(|line| line.len() >= LINE_BYTES) {
         return Err(Refusal::NoFile(file, LONG_LINE));
     }
-    Ok(())
+    check_text(alloc, file, text, board, flaw)?;
+    Ok(is_cut(text))
 }
 
-/// Whether a script that is read may have been cut within its last line.
-// for the checker: apart from what reads it, so that the text is dropped at one exit
 fn check_script<'a, S: Source>(
     alloc: Global,
     source: &S,
     file: &'a str,
     board: &BoardConfig,
+    flaw: &mut String,
 ) -> Result<bool, Refusal<'a>> {
-    let text = text_of(alloc, source, file, SCRIPT_FILE)?;
-    check_lengths(file, text.as_str())?;
-    check_text(alloc, file, text.as_str(), board)?;
-    Ok(is_cut(text.as_str()))
+    let bytes = content_of(alloc, source, file, SCRIPT_FILE)?;
+    check_lines(alloc, file, bytes.as_slice(), board, flaw)
+}
+
+/// Writes of each guest of a board its capacity.
+fn write_guests<W: Write>(board: &BoardConfig, out: &mut W) -> io::Result<()> {
+    let mut number = 0u16;
+    for guest in board.guests() {
+        let units = guest.capacity;
+        let size = 128 * u32::from(units);
+        writeln!(out, "guest {number}: capacity {units} ({size} KiB)")?;
+        number = number.saturating_add(1);
+    }
+    Ok(())
+}
+
+/// Writes what a board is good for, with what is said of its image, where it names one.
+fn write_board<W: Write>(
+    board: &BoardConfig,
+    image: Option<(&str, &str)>,
+    out: &mut W,
+) -> io::Result<()> {
+    let count = board.guests().len();
+    let guests = if count == 1 { "guest" } else { "guests" };
+    match image {
+        Some((path, state)) => writeln!(out, "ok: {count} {guests}, image {path:?}{state}")?,
+        None => {
+            let kept = "in memory: format, show and upgrade refuse it";
+            writeln!(out, "ok: {count} {guests}, {kept}")?;
+        }
+    }
+    write_guests(board, out)
 }
 
 /// Says of a script that it may have been cut.
@@ -121,59 +179,49 @@ fn write_cut<'a, W: Write>(file: &str, out: &mut W) -> Result<(), Refusal<'a>> {
     }
 }
 
-/// Writes what a board is good for, with what is said of its image, where it names one.
-fn write_ok<W: Write>(count: usize, image: Option<&(&str, String)>, out: &mut W) -> io::Result<()> {
-    let guests = if count == 1 { "guest" } else { "guests" };
-    match image {
-        Some((path, state)) => writeln!(out, "ok: {count} {guests}, image {path:?}{state}"),
-        None => {
-            let kept = "in memory: format, show and upgrade refuse it";
-            writeln!(out, "ok: {count} {guests}, {kept}")
+/// Checks the script, where one is named, and the image of a board, and writes what that is good
+/// for.
+fn check_on<'a, S: Source, W: Write>(
+    alloc: Global,
+    source: &S,
+    script: Option<&'a str>,
+    board: &Board<'a>,
+    flaw: &mut String,
+    out: &mut W,
+) -> Result<(), Refusal<'a>> {
+    let is_cut = match script {
+        Some(script) => check_script(alloc, source, script, &board.config, flaw)?,
+        None => false,
+    };
+    let image = match board.image.as_deref() {
+        Some(path) => {
+            let state = check_image(alloc, source, board.file, &board.config, path, flaw)?;
+            Some((path, state))
         }
+        None => None,
+    };
+    if write_board(&board.config, image, out).is_err() {
+        return Err(Refusal::NoRoom);
     }
-}
-
-/// Writes of each guest of a board its capacity.
-fn write_guests<W: Write>(board: &BoardConfig, out: &mut W) -> io::Result<()> {
-    let mut number = 0u16;
-    for guest in board.guests() {
-        let units = guest.capacity;
-        writeln!(
-            out,
-            "guest {number}: capacity {units} ({} KiB)",
-            128 * u32::from(units)
-        )?;
-        number = number.saturating_add(1);
+    match script {
+        Some(script) if is_cut => write_cut(script, out),
+        _ => Ok(()),
     }
-    Ok(())
 }
 
 /// Writes `ok`, and what the board is good for, where `rpmbd run` reads the board file, and the
 /// script where one is named. Refused, too, where the image is there and is none of the board's.
+/// What is wrong with a file goes into `flaw`.
 pub fn check<'a, S: Source, W: Write>(
     alloc: Global,
     source: &S,
     words: &Words<'a>,
+    flaw: &mut String,
     out: &mut W,
 ) -> Result<(), Refusal<'a>> {
     let Some(file) = words.board else {
-        return Err(OptionRefusal::Incomplete.into());
+        return Err(Refusal::Option(OptionRefusal::Incomplete));
     };
-    let (board, image) = check_board(alloc, source, file)?;
-    let cut = match words.script {
-        Some(script) if check_script(alloc, source, script, &board)? => Some(script),
-        _ => None,
-    };
-    let image = match image.as_deref() {
-        Some(path) => Some(check_image(alloc, source, file, &board, path)?),
-        None => None,
-    };
-    let count = board.guests().len();
-    if write_ok(count, image.as_ref(), out).is_err() || write_guests(&board, out).is_err() {
-        return Err(Refusal::NoRoom);
-    }
-    match cut {
-        Some(script) => write_cut(script, out),
-        None => Ok(()),
-    }
+    let board = check_board(alloc, source, file, flaw)?;
+    check_on(alloc, source, words.script, &board, flaw, out)
 }

@@ -5,7 +5,7 @@ use rpmb_client::{Used, is_wrong};
 use rpmb_frame::Frame;
 
 /// What is wrong with the first answer that is.
-#[derive(Clone, Copy, Debug)]
+#[derive(Clone, Copy)]
 pub struct Doubt {
     /// Its line on standard input, counted from 1.
     pub line: u64,

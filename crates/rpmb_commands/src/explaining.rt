@@ -3,60 +3,51 @@ ghost use Rattle.std.specs.Prelude.{◌≡◌, ◌||◌, [], IfErr, IfOk, IfSome
 ghost use Rattle.std.specs.Prelude.{Some, string_bytes, true};
 ghost use Rattle.std.specs.Io.KnownBytes.{Appends, Keeps};
 ghost use Rattle.rpmb_client.specs.Seen.{used_seen};
-ghost use Rattle.rpmb_commands.specs.Explaining.{AsksNonce, ExplainDoes, Explains, IsJudging};
+ghost use Rattle.rpmb_commands.specs.Explaining.{AsksNonce, ExplainDoes, Explains, ExplainsBy};
 ghost use Rattle.rpmb_commands.specs.Explaining.{IsNext, IsOther, SaysAll, has_refused, has_wrong};
 ghost use Rattle.rpmb_commands.specs.Explaining.{is_answer, is_no_answer, is_refused_of};
 ghost use Rattle.rpmb_commands.specs.Explaining.{is_wrong_of, judging_of, line_told, other_told};
-ghost use Rattle.rpmb_commands.specs.Explaining.{reply_told, told_counts, told_of};
-ghost use Rattle.rpmb_commands.specs.Explaining.{without_feed};
+ghost use Rattle.rpmb_commands.specs.Explaining.{told_counts, told_of, without_feed};
+ghost use Rattle.rpmb_commands.specs.KeysSaid.{keys_seen};
 ghost use Rattle.rpmb_commands.specs.Refusing.{IsOfReading};
 
 use crate::counts::{Counts, unused_key};
 use crate::doubts::{doubt_of, doubt_of_line};
 use crate::keys::keys_of;
 use crate::other_line::{is_no_answer, write_other};
-use crate::refusal::Refusal;
+use crate::refusal::{AnswerRefusal, KeyRefusal, Refusal};
 use crate::source::Source;
 use crate::values::nonce_of;
 use crate::words::Words;
-use rpmb_client::{
-    ClientFault, Keys, Used, explain, explain_as_objects, is_refused, is_wrong, read_used,
-};
+use rpmb_client::{Keys, Used, explain, is_refused, is_wrong, read_used};
 use std::alloc::Global;
 use std::io;
 use std::io::{BufRead, Write};
 
 /// What answers are judged by.
-#[derive(Drop)]
-struct Judge {
-    keys: Keys,
+#[derive(Clone, Copy)]
+struct Judge<'k> {
+    keys: &'k Keys,
     nonce: Option<[u8; 16]>,
     /// Whether all is told in JSON.
     as_json: bool,
 }
 
-/// Writes what the reply of a `used` line is, in the form that is asked for.
-fn write_reply<W: Write>(
-    alloc: Global,
-    used: &Used,
-    judge: &Judge,
-    out: &mut W,
-) -> Result<(), ClientFault>
-    ensures { OnOk result (Appends (W.contents out.old) (W.contents out.new)
-        (reply_told (judging_of judge.now) (used_seen used.now))) }
+fn flush<'a, W: Write>(out: &mut W) -> Result<(), Refusal<'a>>
+    ensures kept { Keeps (W.contents out.old) (W.contents out.new) }
+    ensures other { IfErr result IsOther }
 {
-    let key = judge.keys.key_of(used.guest);
-    if judge.as_json {
-        return explain_as_objects(alloc, used, key, judge.nonce, out);
+    match out.flush() {
+        Ok(()) => Ok(()),
+        Err(_) => Err(Refusal::NoRoom),
     }
-    explain(alloc, used, key, judge.nonce, out)
 }
 
-/// Says what the reply of a `used` line is, and counts it.
+/// Says what the reply of a `used` line is, counts it, and lets that go out.
 fn explain_used<'a, W: Write>(
     alloc: Global,
     used: &Used,
-    judge: &Judge,
+    judge: &Judge<'_>,
     counts: &mut Counts,
     out: &mut W,
 ) -> Result<(), Refusal<'a>>
@@ -70,18 +61,18 @@ fn explain_used<'a, W: Write>(
     ensures other { IfErr result IsOther }
 {
     let key = judge.keys.key_of(used.guest);
-    match write_reply(alloc, used, judge, out) {
+    match explain(alloc, used, key, judge.nonce, judge.as_json, out) {
         Ok(()) => {
             let why = doubt_of(used, judge.nonce);
             let is_wrong = is_wrong(used, key, judge.nonce);
             counts.add(used, is_wrong, is_refused(used), why);
-            Ok(())
+            flush(out)
         }
         Err(fault) => Err(Refusal::of(fault)),
     }
 }
 
-/// Passes on a line that gives no reply, and counts it where it is no answer.
+/// Passes on a line that gives no reply, counts it where it is no answer, and lets it go out.
 fn pass_on<'a, W: Write>(
     alloc: Global,
     line: &str,
@@ -100,7 +91,7 @@ fn pass_on<'a, W: Write>(
     match write_other(alloc, line, as_json, out) {
         Ok(()) => {
             counts.add_unread(is_no_answer(line), doubt_of_line(line));
-            Ok(())
+            flush(out)
         }
         Err(fault) => Err(Refusal::of(fault)),
     }
@@ -111,7 +102,7 @@ fn pass_on<'a, W: Write>(
 fn explain_line<'a, W: Write>(
     alloc: Global,
     line: &str,
-    judge: &Judge,
+    judge: &Judge<'_>,
     counts: &mut Counts,
     out: &mut W,
 ) -> Result<(), Refusal<'a>>
@@ -187,42 +178,10 @@ pub(crate) fn without_end(line: &str) -> &str
     }
 }
 
-fn flush<'a, W: Write>(out: &mut W) -> Result<(), Refusal<'a>>
-    ensures kept { Keeps (W.contents out.old) (W.contents out.new) }
-    ensures other { IfErr result IsOther }
-{
-    match out.flush() {
-        Ok(()) => Ok(()),
-        Err(_) => Err(Refusal::NoRoom),
-    }
-}
-
-/// Says of a line what it is, and lets it go out.
-fn explain_now<'a, W: Write>(
-    alloc: Global,
-    line: &str,
-    judge: &Judge,
-    counts: &mut Counts,
-    out: &mut W,
-) -> Result<(), Refusal<'a>>
-    ensures told { OnOk result (Appends (W.contents out.old) (W.contents out.new)
-        (line_told (judging_of judge.now) (without_feed line.now))) }
-    ensures wrong { OnOk result (nat_lt 0 counts.new.wrong ≡ (nat_lt 0 counts.old.wrong
-        || has_wrong (judging_of judge.now) (without_feed line.now))) }
-    ensures refused { OnOk result (nat_lt 0 counts.new.refused ≡ (nat_lt 0 counts.old.refused
-        || has_refused (without_feed line.now))) }
-    ensures answer { OnOk result (counts.new.has_answer
-        ≡ (is_answer (without_feed line.now) || counts.old.has_answer)) }
-    ensures other { IfErr result IsOther }
-{
-    explain_line(alloc, without_end(line), judge, counts, out)?;
-    flush(out)
-}
-
 /// Explains line after line, each as it comes and in the same `line`.
 fn tell_each<'a, B: BufRead, W: Write>(
     alloc: Global,
-    judge: &Judge,
+    judge: &Judge<'_>,
     line: &mut String,
     input: &mut B,
     out: &mut W,
@@ -237,7 +196,7 @@ fn tell_each<'a, B: BufRead, W: Write>(
         if !next_line(input, counts.lines.saturating_add(1), line)? {
             return Ok(counts);
         }
-        explain_now(alloc, line.as_str(), judge, &mut counts, out)?;
+        explain_line(alloc, without_end(line.as_str()), judge, &mut counts, out)?;
     }
     // No input has so many lines.
     Err(Refusal::NoInput("more than there are numbers for"))
@@ -245,7 +204,7 @@ fn tell_each<'a, B: BufRead, W: Write>(
 
 fn tell_lines<'a, B: BufRead, W: Write>(
     alloc: Global,
-    judge: &Judge,
+    judge: &Judge<'_>,
     input: &mut B,
     out: &mut W,
 ) -> Result<Counts, Refusal<'a>>
@@ -268,25 +227,6 @@ fn asked_nonce<'a>(alloc: Global, words: &Words<'a>) -> Result<Option<[u8; 16]>,
     }
 }
 
-fn judge_of<'a, S: Source>(
-    alloc: Global,
-    source: &S,
-    words: &Words<'a>,
-) -> Result<Judge, Refusal<'a>>
-    ensures ok { IfOk result
-        (λ judge. IsJudging (S.gives source.now) words.now (judging_of judge)) }
-    ensures other { IfErr result IsOther }
-{
-    let keys = keys_of(alloc, source, words)?;
-    let nonce = asked_nonce(alloc, words)?;
-    let as_json = words.json;
-    Ok(Judge {
-        keys,
-        nonce,
-        as_json,
-    })
-}
-
 /// Refused where a line is torn or wrong, else where no reply came at all, and else where one says
 /// that a request was refused.
 fn told<'a>(counts: Result<Counts, Refusal<'a>>) -> Result<(), Refusal<'a>>
@@ -294,14 +234,50 @@ fn told<'a>(counts: Result<Counts, Refusal<'a>>) -> Result<(), Refusal<'a>>
 {
     match counts {
         Ok(counts) if counts.wrong > 0 => {
-            Err(Refusal::WrongAnswer(counts.replies, counts.wrong, counts.doubt))
+            Err(Refusal::Answer(AnswerRefusal::WrongAnswer(
+                counts.replies,
+                counts.wrong,
+                counts.doubt,
+            )))
         }
-        Ok(counts) if !counts.has_answer => Err(Refusal::NoReply(counts.lines)),
+        Ok(counts) if !counts.has_answer => Err(Refusal::Answer(AnswerRefusal::NoReply(
+            counts.lines,
+        ))),
         Ok(counts) if counts.refused > 0 => {
-            Err(Refusal::RefusedAnswer(counts.replies, counts.refused, counts.results))
+            Err(Refusal::Answer(AnswerRefusal::RefusedAnswer(
+                counts.replies,
+                counts.refused,
+                counts.results,
+            )))
         }
         Ok(_) => Ok(()),
         Err(refusal) => Err(refusal),
+    }
+}
+
+/// Says of all lines what each is, by these keys.
+fn tell_by<'a, B: BufRead, W: Write>(
+    alloc: Global,
+    words: &Words<'a>,
+    keys: &Keys,
+    input: &mut B,
+    out: &mut W,
+) -> Result<Counts, Refusal<'a>>
+    ensures told { IfOk result (ExplainsBy (keys_seen keys.now) words.now (B.remaining input.old)
+        (W.contents out.old) (W.contents out.new)) }
+    ensures other { IfErr result IsOther }
+{
+    let nonce = asked_nonce(alloc, words)?;
+    let as_json = words.json;
+    let judge = Judge {
+        keys,
+        nonce,
+        as_json,
+    };
+    let counts = tell_lines(alloc, &judge, input, out)?;
+    match unused_key(keys, &counts) {
+        Some(guest) if counts.wrong == 0 => Err(Refusal::Key(KeyRefusal::UnusedKey(guest))),
+        _ => Ok(counts),
     }
 }
 
@@ -316,12 +292,8 @@ fn tell_all<'a, S: Source, B: BufRead, W: Write>(
         (W.contents out.old) (W.contents out.new)) }
     ensures other { IfErr result IsOther }
 {
-    let judge = judge_of(alloc, source, words)?;
-    let counts = tell_lines(alloc, &judge, input, out)?;
-    match unused_key(&judge.keys, &counts) {
-        Some(guest) if counts.wrong == 0 => Err(Refusal::UnusedKey(guest)),
-        _ => Ok(counts),
-    }
+    let keys = keys_of(alloc, source, words)?;
+    tell_by(alloc, words, &keys, input, out)
 }
 
 /// Says of each `used` line what its reply is, and writes each other line as it is. Refused at the

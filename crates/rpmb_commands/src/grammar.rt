@@ -1,4 +1,4 @@
-//! The commands as `clap` reads them: a row for each, with a row for each of its options.
+//! The commands as `clap` reads them: a row for each, which names its options.
 use crate::help::{
     CHECK, DO, DO_KEY, DO_READ, DO_READ_COUNTER, DO_WRITE, EXPLAIN, PROGRAM, PROGRAM_KEY, READ,
     READ_COUNTER, READ_DATA, RESULT, WRITE,
@@ -7,234 +7,63 @@ use clap::{Arg, ArgAction, Command};
 use command_line::VERSION;
 use std::alloc::{AllocError, Global};
 
-/// How an option is written.
-#[derive(Clone, Copy)]
-enum Form {
-    /// `--ID VALUE`.
-    Value,
-    /// `--ID VALUE`, as often as is wanted.
-    Values,
-    /// `--ID`.
-    Flag,
-    /// A word without a name before it.
-    Word,
-}
-
-/// An option of a command.
-#[derive(Clone, Copy)]
-struct OptionRow {
-    id: &'static str,
-    form: Form,
-    /// What stands for its value in the help; empty where the form shows none.
-    value: &'static str,
-    /// Whether the command is refused without it.
-    is_needed: bool,
-    help: &'static str,
-}
-
 /// A command, or an operation of `do`, with what stands behind its help: what it prints, and its
 /// statuses.
 struct CommandRow {
     name: &'static str,
     about: &'static str,
-    options: &'static [OptionRow],
+    /// The names of its options; behind one that it doesn't need stands a question mark.
+    options: &'static str,
     more: &'static str,
 }
-
-const GUEST: OptionRow = OptionRow {
-    id: "guest",
-    form: Form::Value,
-    value: "G",
-    is_needed: true,
-    help: "The number of the guest, from 0, in the order of the board file",
-};
-
-const KEY: OptionRow = OptionRow {
-    id: "key",
-    form: Form::Value,
-    value: "KEY",
-    is_needed: true,
-    help: "@FILE of 64 hex digits, @raw:FILE of 32 bytes, or the digits, which `ps` shows to all",
-};
-
-/// The keys of several guests.
-const KEYS: OptionRow = OptionRow {
-    id: "key",
-    form: Form::Values,
-    value: "KEY",
-    is_needed: false,
-    help: "The key of all guests, or as G=KEY that of guest G alone; may be given for each guest",
-};
-
-const NONCE: OptionRow = OptionRow {
-    id: "nonce",
-    form: Form::Value,
-    value: "HEX",
-    is_needed: true,
-    help: "16 bytes in hex digits, random and never used before",
-};
-
-/// The nonce of a request that was made before.
-const ASKED_NONCE: OptionRow = OptionRow {
-    id: "nonce",
-    form: Form::Value,
-    value: "HEX",
-    is_needed: true,
-    help: "16 bytes in hex digits, those that the request was made with",
-};
-
-const COUNTER: OptionRow = OptionRow {
-    id: "counter",
-    form: Form::Value,
-    value: "N",
-    is_needed: true,
-    help: "The write counter of the first line: 0 behind the key, one more behind each line",
-};
-
-const ADDRESS: OptionRow = OptionRow {
-    id: "address",
-    form: Form::Value,
-    value: "A",
-    is_needed: true,
-    help: "The first block, from 0 on",
-};
-
-const COUNT: OptionRow = OptionRow {
-    id: "count",
-    form: Form::Value,
-    value: "N",
-    is_needed: true,
-    help: "How many blocks, 1 to 16",
-};
-
-const DATA: OptionRow = OptionRow {
-    id: "data",
-    form: Form::Value,
-    value: "HEX",
-    is_needed: false,
-    help: "The blocks, 256 bytes each, in hex digits",
-};
-
-const FILE: OptionRow = OptionRow {
-    id: "file",
-    form: Form::Value,
-    value: "FILE",
-    is_needed: false,
-    help: "A file of the blocks, 256 bytes each",
-};
-
-const PAD: OptionRow = OptionRow {
-    id: "pad",
-    form: Form::Flag,
-    value: "",
-    is_needed: false,
-    help: "Fills the last block with zeros",
-};
-
-const MOST: OptionRow = OptionRow {
-    id: "max-blocks",
-    form: Form::Value,
-    value: "N",
-    is_needed: false,
-    help: "The most blocks of one write, 1 to 16",
-};
-
-const NO_RESULT: OptionRow = OptionRow {
-    id: "no-result",
-    form: Form::Flag,
-    value: "",
-    is_needed: false,
-    help: "Asks for no result, and so for no reply",
-};
-
-const LENGTH: OptionRow = OptionRow {
-    id: "length",
-    form: Form::Value,
-    value: "N",
-    is_needed: false,
-    help: "Writes the first N bytes alone, as what was written with --pad had",
-};
-
-const JSON: OptionRow = OptionRow {
-    id: "json",
-    form: Form::Flag,
-    value: "",
-    is_needed: false,
-    help: "Prints a JSON object a line, for machines",
-};
-
-const BOARD: OptionRow = OptionRow {
-    id: "BOARD",
-    form: Form::Word,
-    value: "",
-    is_needed: true,
-    help: "The board file (TOML)",
-};
-
-const SCRIPT: OptionRow = OptionRow {
-    id: "SCRIPT",
-    form: Form::Word,
-    value: "",
-    is_needed: false,
-    help: "A script for that board",
-};
 
 static COMMANDS: [CommandRow; 8] = [
     CommandRow {
         name: "program-key",
         about: "Makes the line that programs the key and asks for the result",
-        options: &[GUEST, KEY],
+        options: "guest key",
         more: PROGRAM_KEY,
     },
     CommandRow {
         name: "read-counter",
         about: "Makes the line that asks for the write counter",
-        options: &[GUEST, NONCE],
+        options: "guest nonce",
         more: READ_COUNTER,
     },
     CommandRow {
         name: "write",
         about: "Makes the lines that write blocks",
-        options: &[
-            GUEST, KEY, COUNTER, ADDRESS, DATA, FILE, PAD, MOST, NO_RESULT,
-        ],
+        options: "guest key counter address data? file? pad? max-blocks? no-result?",
         more: WRITE,
     },
     CommandRow {
         name: "read",
         about: "Makes the line that reads blocks",
-        options: &[GUEST, ADDRESS, COUNT, NONCE],
+        options: "guest address count nonce",
         more: READ,
     },
     CommandRow {
         name: "result",
         about: "Makes the line that asks for the result of the last key or write",
-        options: &[GUEST],
+        options: "guest",
         more: RESULT,
     },
     CommandRow {
         name: "explain",
         about: "Reads the lines of `rpmbd run` from standard input, and says what each reply is",
-        options: &[
-            KEYS,
-            OptionRow {
-                is_needed: false,
-                ..ASKED_NONCE
-            },
-            JSON,
-        ],
+        options: "keys? asked-nonce? json?",
         more: EXPLAIN,
     },
     CommandRow {
         name: "read-data",
         about: "Reads the lines of `rpmbd run` from standard input, and writes the blocks of a read",
-        options: &[KEY, ASKED_NONCE, LENGTH],
+        options: "key asked-nonce length?",
         more: READ_DATA,
     },
     CommandRow {
         name: "check",
         about: "Says whether `rpmbd` reads a board file and a script, and if not, why",
-        options: &[BOARD, SCRIPT],
+        options: "BOARD SCRIPT?",
         more: CHECK,
     },
 ];
@@ -244,59 +73,122 @@ static OPERATIONS: [CommandRow; 4] = [
     CommandRow {
         name: "program-key",
         about: "Programs the key, which can't be taken back",
-        options: &[GUEST, KEY],
+        options: "guest key",
         more: DO_KEY,
     },
     CommandRow {
         name: "read-counter",
         about: "Reads the write counter",
-        options: &[
-            GUEST,
-            OptionRow {
-                is_needed: false,
-                ..KEY
-            },
-        ],
+        options: "guest key?",
         more: DO_READ_COUNTER,
     },
     CommandRow {
         name: "write",
         about: "Writes blocks, under the write counter that it reads first",
-        options: &[GUEST, KEY, ADDRESS, DATA, FILE, PAD, MOST],
+        options: "guest key address data? file? pad? max-blocks?",
         more: DO_WRITE,
     },
     CommandRow {
         name: "read",
         about: "Reads blocks, and writes their bytes",
-        options: &[GUEST, KEY, ADDRESS, COUNT, LENGTH],
+        options: "guest key address count length?",
         more: DO_READ,
     },
 ];
 
-/// An option with a name before its value. A negative number is a value, which is refused by its
-/// range.
-fn named<'a>(arg: Arg<'a>, row: &OptionRow) -> Arg<'a> {
-    arg.long(row.id)
-        .value_name(row.value)
-        .allow_negative_numbers(true)
+/// The options: the name of each, what stands for its value in the help, and that help. `keys` are
+/// those of several guests, and `asked-nonce` is the nonce of a request that was made before.
+static OPTIONS: [(&str, &str, &str); 17] = [
+    (
+        "guest",
+        "G",
+        "The number of the guest, from 0, in the order of the board file",
+    ),
+    (
+        "key",
+        "KEY",
+        "@FILE of 64 hex digits, @raw:FILE of 32 bytes, or the digits, which `ps` shows to all",
+    ),
+    (
+        "keys",
+        "KEY",
+        "The key of all guests, or as G=KEY that of guest G alone; may be given for each guest",
+    ),
+    (
+        "nonce",
+        "HEX",
+        "16 bytes in hex digits, random and never used before",
+    ),
+    (
+        "asked-nonce",
+        "HEX",
+        "16 bytes in hex digits, those that the request was made with",
+    ),
+    (
+        "counter",
+        "N",
+        "The write counter of the first line: 0 behind the key, one more behind each line",
+    ),
+    ("address", "A", "The first block, from 0 on"),
+    ("count", "N", "How many blocks, 1 to 16"),
+    ("data", "HEX", "The blocks, 256 bytes each, in hex digits"),
+    ("file", "FILE", "A file of the blocks, 256 bytes each"),
+    ("pad", "", "Fills the last block with zeros"),
+    ("max-blocks", "N", "The most blocks of one write, 1 to 16"),
+    ("no-result", "", "Asks for no result, and so for no reply"),
+    (
+        "length",
+        "N",
+        "Writes the first N bytes alone, as what was written with --pad had",
+    ),
+    ("json", "", "Prints a JSON object a line, for machines"),
+    ("BOARD", "", "The board file (TOML)"),
+    ("SCRIPT", "", "A script for that board"),
+];
+
+/// What the table has of an option.
+fn row_of(name: &str) -> (&'static str, &'static str, &'static str) {
+    let mut found = ("", "", "");
+    for row in OPTIONS.iter() {
+        if row.0 == name {
+            found = *row;
+        }
+    }
+    found
 }
 
-fn option_of<'a>(alloc: Global, row: &OptionRow) -> Arg<'a> {
-    let arg = Arg::new(alloc, row.id)
-        .help(row.help)
-        .required(row.is_needed);
-    match row.form {
-        Form::Value => named(arg, row),
-        Form::Values => named(arg, row).action(ArgAction::Append),
-        Form::Flag => arg.long(row.id).action(ArgAction::SetTrue),
-        Form::Word => arg,
+/// What an option is called on the command line.
+fn id_of(name: &'static str) -> &'static str {
+    match name {
+        "keys" => "key",
+        "asked-nonce" => "nonce",
+        _ => name,
     }
 }
 
-fn options_of<'a>(alloc: Global, rows: &[OptionRow]) -> Result<Vec<Arg<'a>>, AllocError> {
+/// An option with a name before its value. A negative number is a value, which is refused by its
+/// range.
+fn named<'a>(arg: Arg<'a>, id: &'static str, value: &'static str) -> Arg<'a> {
+    arg.long(id).value_name(value).allow_negative_numbers(true)
+}
+
+fn option_of<'a>(alloc: Global, name: &'static str, is_needed: bool) -> Arg<'a> {
+    let (_, value, help) = row_of(name);
+    let id = id_of(name);
+    let arg = Arg::new(alloc, id).help(help).required(is_needed);
+    match name {
+        "BOARD" | "SCRIPT" => arg,
+        "keys" => named(arg, id, value).action(ArgAction::Append),
+        _ if value.is_empty() => arg.long(id).action(ArgAction::SetTrue),
+        _ => named(arg, id, value),
+    }
+}
+
+fn options_of<'a>(alloc: Global, words: &'static str) -> Result<Vec<Arg<'a>>, AllocError> {
     let mut options = Vec::new(alloc);
-    for row in rows {
-        options.push(option_of(alloc, row))?;
+    for word in words.split(' ') {
+        let free = word.strip_suffix('?');
+        options.push(option_of(alloc, free.unwrap_or(word), free.is_none()))?;
     }
     Ok(options)
 }
@@ -309,10 +201,21 @@ fn command_of<'a>(alloc: Global, row: &CommandRow) -> Result<Command<'a>, AllocE
         .args(options)
 }
 
+// for the checker: apart from the commands before it, which are dropped at one exit
+fn push_command<'a>(
+    alloc: Global,
+    row: &CommandRow,
+    commands: &mut Vec<Command<'a>>,
+) -> Result<(), AllocError> {
+    let command = command_of(alloc, row)?;
+    commands.push(command)?;
+    Ok(())
+}
+
 fn commands_of<'a>(alloc: Global, rows: &[CommandRow]) -> Result<Vec<Command<'a>>, AllocError> {
     let mut commands = Vec::new(alloc);
     for row in rows {
-        commands.push(command_of(alloc, row)?)?;
+        push_command(alloc, row, &mut commands)?;
     }
     Ok(commands)
 }
@@ -326,14 +229,26 @@ fn doing<'a>(alloc: Global) -> Result<Command<'a>, AllocError> {
         .subcommand_value_name("OPERATION")
         .subcommand_help_heading("Operations")
         .after_help(DO)
-        .arg(option_of(alloc, &BOARD))?
-        .subcommands(operations)
+        .subcommands(operations)?
+        .arg(option_of(alloc, "BOARD", true))
+}
+
+// for the checker: apart, as each command
+fn push_doing<'a>(alloc: Global, commands: &mut Vec<Command<'a>>) -> Result<(), AllocError> {
+    let command = doing(alloc)?;
+    commands.push(command)?;
+    Ok(())
+}
+
+fn all_commands<'a>(alloc: Global) -> Result<Vec<Command<'a>>, AllocError> {
+    let mut commands = commands_of(alloc, &COMMANDS)?;
+    push_doing(alloc, &mut commands)?;
+    Ok(commands)
 }
 
 /// The program with all its commands.
 pub fn program<'a>(alloc: Global) -> Result<Command<'a>, AllocError> {
-    let mut commands = commands_of(alloc, &COMMANDS)?;
-    commands.push(doing(alloc)?)?;
+    let commands = all_commands(alloc)?;
     Command::new(alloc, "rpmb")
         .version(VERSION)
         .about("Makes the requests of scripts for rpmbd, and says what its answers are")

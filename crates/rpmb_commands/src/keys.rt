@@ -6,7 +6,7 @@ ghost use Rattle.rpmb_commands.specs.KeysSaid.{AddsKey, AddsKeys, AddsOthers, Ad
 ghost use Rattle.rpmb_commands.specs.KeysSaid.{IsForOthers, IsParted, keys_seen, no_keys};
 
 use crate::reading::key;
-use crate::refusal::Refusal;
+use crate::refusal::{KeyRefusal, Refusal};
 use crate::source::Source;
 use crate::words::Words;
 use rpmb_client::{GuestKey, Keys, key_at, number_of};
@@ -39,7 +39,7 @@ pub fn check_own_key<'a>(words: &Words<'a>) -> Result<(), Refusal<'a>> {
         return Ok(());
     };
     match guest_number(guest) {
-        Some(named) => Err(Refusal::NamedKey(named, words.guest.unwrap_or(""))),
+        Some(named) => Err(Refusal::Key(KeyRefusal::NamedKey(named, words.guest.unwrap_or("")))),
         None => Ok(()),
     }
 }
@@ -56,10 +56,10 @@ fn add_own<'a, S: Source>(
     ensures other { IfErr result IsOther }
 {
     let Some(guest) = guest_number(guest) else {
-        return Err(Refusal::NoGuest);
+        return Err(Refusal::Key(KeyRefusal::NoGuest));
     };
     if key_at(keys.own.as_slice(), guest).is_some() {
-        return Err(Refusal::SecondKey(guest));
+        return Err(Refusal::Key(KeyRefusal::SecondKey(guest)));
     }
     let key = key(alloc, source, Some(word))?;
     match keys.own.push(GuestKey { guest, key }) {
@@ -79,7 +79,7 @@ fn add_others<'a, S: Source>(
     ensures other { IfErr result IsOther }
 {
     if keys.others.is_some() {
-        return Err(Refusal::SecondOfOthers);
+        return Err(Refusal::Key(KeyRefusal::SecondOfOthers));
     }
     keys.others = Some(key(alloc, source, Some(word))?);
     Ok(())

@@ -3,13 +3,14 @@ ghost use Rattle.std.specs.Prelude.{◌≡◌};
 ghost use Rattle.rpmb_commands.specs.Performing.{Does, Performs, after_flush, asked_of, status_of};
 ghost use Rattle.rpmb_commands.specs.Refusing.{refusal_status};
 
-use crate::advice::{advice_of, tell_advice, tell_results};
+use crate::advice::{advice_of, tell_advice};
 use crate::asked::{Asked, asked_of};
 use crate::checking::check;
 use crate::explaining::tell;
-use crate::making::{make_program_key, make_read, make_read_counter, make_result};
+use crate::making::make;
 use crate::read_data::give_data;
 use crate::refusal::Refusal;
+use crate::results::tell_results;
 use crate::source::Source;
 use crate::words::Words;
 use crate::writing::make_write;
@@ -22,20 +23,18 @@ fn perform_on<'a, S: Source, B: BufRead, W: Write>(
     source: &S,
     words: &Words<'a>,
     input: &mut B,
+    flaw: &mut String,
     out: &mut W,
 ) -> Result<(), Refusal<'a>>
     ensures { Does (S.gives source.now) (asked_of words.now.command.now) words.now
         (B.remaining input.old) (W.contents out.old) result (W.contents out.new) }
 {
     match asked_of(words.command) {
-        Asked::ProgramKey => make_program_key(alloc, source, words, out),
-        Asked::ReadCounter => make_read_counter(alloc, words, out),
+        Asked::Make(making) => make(alloc, source, words, making, out),
         Asked::Write => make_write(alloc, source, words, out),
-        Asked::Read => make_read(alloc, words, out),
-        Asked::Outcome => make_result(alloc, words, out),
         Asked::Explain => tell(alloc, source, words, input, out),
         Asked::ReadData => give_data(alloc, source, words, input, out),
-        Asked::Check => check(alloc, source, words, out),
+        Asked::Check => check(alloc, source, words, flaw, out),
         Asked::Unknown => Err(Refusal::Option(OptionRefusal::Incomplete)),
     }
 }
@@ -50,17 +49,22 @@ pub fn report<E: Write>(refusal: Refusal<'_>, err: &mut E) -> u8
     status
 }
 
-/// Writes the line of a refusal of these words, and what helps, where that is known; and gives its
-/// status, as `report` does.
+/// Writes the line of a refusal of these words, with the words of its flaw, and what helps, where
+/// that is known; and gives its status.
+fn report_flaw<'a, E: Write>(words: &Words<'a>, refusal: Refusal<'a>, flaw: &str, err: &mut E) -> u8
+    ensures { result ≡ refusal_status refusal.entry }
+{
+    let _ = writeln!(err, "rpmb: {refusal}{flaw}");
+    tell_advice(advice_of(words, refusal), err);
+    tell_results(words, refusal.results(), err);
+    refusal.status()
+}
+
+/// The same of a refusal that has no flaw.
 pub fn report_with_advice<'a, E: Write>(words: &Words<'a>, refusal: Refusal<'a>, err: &mut E) -> u8
     ensures { result ≡ refusal_status refusal.entry }
 {
-    let advice = advice_of(words, &refusal);
-    let results = refusal.results();
-    let status = report(refusal, err);
-    tell_advice(advice, err);
-    tell_results(words, results, err);
-    status
+    report_flaw(words, refusal, "", err)
 }
 
 /// How a command ends, once all is flushed, or standard output took no more.
@@ -74,12 +78,17 @@ fn after_flush<'a>(is_flushed: bool, ended: Result<(), Refusal<'a>>) -> Result<(
 }
 
 /// The status that tells how a command ended, with the lines of its refusal on standard error.
-fn status_of<'a, E: Write>(words: &Words<'a>, ended: Result<(), Refusal<'a>>, err: &mut E) -> u8
+fn status_of<'a, E: Write>(
+    words: &Words<'a>,
+    ended: Result<(), Refusal<'a>>,
+    flaw: &str,
+    err: &mut E,
+) -> u8
     ensures { result ≡ status_of ended.entry }
 {
     match ended {
         Ok(()) => 0,
-        Err(refusal) => report_with_advice(words, refusal, err),
+        Err(refusal) => report_flaw(words, refusal, flaw, err),
     }
 }
 
@@ -97,7 +106,8 @@ pub fn perform<S: Source, B: BufRead, W: Write, E: Write>(
     ensures { Performs (S.gives source.now) words.now (B.remaining input.old)
         (W.contents out.old) result (W.contents out.new) }
 {
-    let ended = perform_on(alloc, source, words, input, out);
+    let mut flaw = String::new(alloc);
+    let ended = perform_on(alloc, source, words, input, &mut flaw, out);
     let is_flushed = out.flush().is_ok();
-    status_of(words, after_flush(is_flushed, ended), err)
+    status_of(words, after_flush(is_flushed, ended), flaw.as_str(), err)
 }

@@ -13,7 +13,7 @@ ghost use Rattle.rpmb_commands.specs.Refusing.{IsOfReading, KeepsUnless};
 
 use crate::explaining::{next_line, without_end};
 use crate::reading::key;
-use crate::refusal::Refusal;
+use crate::refusal::{AnswerRefusal, Refusal};
 use crate::source::Source;
 use crate::values::{length_of, nonce_of};
 use crate::words::Words;
@@ -76,7 +76,9 @@ fn answer_of<'a, B: BufRead>(
     };
     match finder.answer() {
         Choice::Answer(used) => Ok(used),
-        Choice::Replies(count, asked) => Err(Refusal::NoAnswer(count, asked)),
+        Choice::Replies(count, asked) => Err(Refusal::Answer(AnswerRefusal::NoAnswer(
+            count, asked,
+        ))),
     }
 }
 
@@ -88,7 +90,7 @@ fn cut_at<'a, 'b>(word: &'a str, blocks: &'b [u8]) -> Result<&'b [u8], Refusal<'
     let length = length_of(word)?;
     match cut(blocks, length as usize) {
         Some(bytes) => Ok(bytes),
-        None => Err(Refusal::TooShort(length, blocks.len())),
+        None => Err(Refusal::Answer(AnswerRefusal::TooShort(length, blocks.len()))),
     }
 }
 
@@ -132,11 +134,11 @@ fn give_first<'a, W: Write>(
 fn no_right_mac<'a>(is_wrong: bool) -> Refusal<'a>
     ensures { result ≡ no_right_mac is_wrong }
 {
-    if is_wrong {
-        Refusal::WrongMac
+    Refusal::Answer(if is_wrong {
+        AnswerRefusal::WrongMac
     } else {
-        Refusal::NoKey
-    }
+        AnswerRefusal::NoKey
+    })
 }
 
 /// The blocks that a read gives, or why none.
@@ -146,11 +148,15 @@ fn blocks_of<'a>(key: &[u8; 32], used: &Used, read: ReadAnswer) -> Result<Vec<u8
 {
     match read {
         ReadAnswer::Blocks(blocks) => Ok(blocks),
-        ReadAnswer::NoFrames => Err(Refusal::NoFrames(used.reply.len())),
+        ReadAnswer::NoFrames => Err(Refusal::Answer(AnswerRefusal::NoFrames(used.reply.len()))),
         ReadAnswer::WrongMac => Err(no_right_mac(is_wrong(used, Some(*key), None))),
-        ReadAnswer::WrongNonce => Err(Refusal::WrongNonce),
-        ReadAnswer::OtherResponse(kind) => Err(Refusal::OtherResponse(kind_text(kind))),
-        ReadAnswer::Refused(code) => Err(Refusal::Refused(result_text(code))),
+        ReadAnswer::WrongNonce => Err(Refusal::Answer(AnswerRefusal::WrongNonce)),
+        ReadAnswer::OtherResponse(kind) => Err(Refusal::Answer(AnswerRefusal::OtherResponse(
+            kind_text(kind),
+        ))),
+        ReadAnswer::Refused(code) => Err(Refusal::Answer(AnswerRefusal::Refused(result_text(
+            code,
+        )))),
     }
 }
 

@@ -4,20 +4,14 @@ ghost use Rattle.rpmb_commands.specs.Refusing.{refusal_of_fault, refusal_status}
 
 use crate::doubts::Doubt;
 use rpmb_client::{ClientFault, OptionRefusal};
+use std::alloc::AllocError;
 use std::convert::From;
+use std::fmt;
 use thiserror::Error;
 
-/// Why nothing more is printed. Each is told by its name, what was expected, and what stands there;
-/// of a key only how long it is.
-#[derive(Debug, Drop, Error)]
-pub enum Refusal<'a> {
-    /// An option that the command needs gives no value.
-    #[error(transparent)]
-    Option(OptionRefusal<'a>),
-    /// A word of a key isn't one, and a file has its name.
-    #[error("BadKey: expected for --key 32 bytes in hex digits, got the name of a file; \
-        a file is named behind an @: @{0}")]
-    FileName(&'a str),
+/// Why a word of a key is none of those that are wanted.
+#[derive(Clone, Copy, Debug, Error)]
+pub enum KeyRefusal<'a> {
     #[error("BadKey: expected for --key one key for each guest, got a second one for guest {0}")]
     SecondKey(u64),
     #[error("BadKey: expected for --key one key for all other guests, got a second one")]
@@ -34,33 +28,11 @@ pub enum Refusal<'a> {
     #[error("BadKey: expected for --key the keys of the guests that answer, got one that is named \
         for guest {0}, of whom no answer came")]
     UnusedKey(u64),
-    #[error("NoData: expected either --data or --file, got {0}")]
-    NoData(&'static str),
-    #[error("BadData: expected whole blocks of 256 bytes, at least one, got {0} bytes; \
-         --pad fills a last block with zeros")]
-    BadData(usize),
-    #[error("PastEnd: expected no block after 65535, the last that any capacity has, got {0}")]
-    PastEnd(u64),
-    #[error("CounterEnd: expected write counters of at most 4294967295 for all writes, got {0}")]
-    CounterEnd(u64),
-    /// The file, and why it can't be read.
-    #[error("FileFault: expected a file that can be read, got {0:?}: {1}")]
-    NoFile(&'a str, &'static str),
-    #[error("FileFault: expected at most {1} bytes in the file {0:?}, got more")]
-    TooLong(&'a str, usize),
-    #[error("FileFault: expected text in UTF-8 in the file {0:?}")]
-    NoText(&'a str),
-    /// What standard input gives in place of lines.
-    #[error("FileFault: expected lines in UTF-8 on standard input, got {0}")]
-    NoInput(&'static str),
-    /// The line of this number on standard input has more bytes than any that is wanted there.
-    #[error("FileFault: expected the lines that `rpmbd run` or `rpmbd serve` prints on standard \
-        input, got more than 32768 bytes in line {0}")]
-    LongLine(u64),
-    #[error("FileFault: expected room on standard output")]
-    NoRoom,
-    #[error("NoMemory")]
-    NoMemory,
+}
+
+/// Why there is no answer, or not the one that is wanted.
+#[derive(Clone, Copy, Error)]
+pub enum AnswerRefusal {
     #[error("NoAnswer: expected one line `used G LEN HEX`, or just one with the nonce, \
         got {0} lines, {1} with it")]
     NoAnswer(u64, u64),
@@ -97,13 +69,73 @@ pub enum Refusal<'a> {
     /// of the results that they have, which are told behind.
     #[error("Refused: expected the result OK in each of {0} replies, got {1} with another")]
     RefusedAnswer(u64, u64, u64),
-    #[error("BadBoard: the board file {0:?}: {1}")]
-    BadBoard(&'a str, String),
-    #[error("BadScript: the script {0:?}: {1}")]
-    BadScript(&'a str, String),
+}
+
+/// Why nothing more is printed. Each is told by its name, what was expected, and what stands there;
+/// of a key only how long it is.
+#[derive(Clone, Copy, Error)]
+pub enum Refusal<'a> {
+    /// An option that the command needs gives no value.
+    #[error(transparent)]
+    Option(OptionRefusal<'a>),
+    #[error(transparent)]
+    Key(KeyRefusal<'a>),
+    #[error(transparent)]
+    Answer(AnswerRefusal),
+    /// A word of a key isn't one, and a file has its name.
+    #[error("BadKey: expected for --key 32 bytes in hex digits, got the name of a file; \
+        a file is named behind an @: @{0}")]
+    FileName(&'a str),
+    #[error("NoData: expected either --data or --file, got {0}")]
+    NoData(&'static str),
+    #[error("BadData: expected whole blocks of 256 bytes, at least one, got {0} bytes; \
+         --pad fills a last block with zeros")]
+    BadData(usize),
+    #[error("PastEnd: expected no block after 65535, the last that any capacity has, got {0}")]
+    PastEnd(u64),
+    #[error("CounterEnd: expected write counters of at most 4294967295 for all writes, got {0}")]
+    CounterEnd(u64),
+    /// The file, and why it can't be read.
+    #[error("FileFault: expected a file that can be read, got {0:?}: {1}")]
+    NoFile(&'a str, &'static str),
+    #[error("FileFault: expected at most {1} bytes in the file {0:?}, got more")]
+    TooLong(&'a str, usize),
+    #[error("FileFault: expected text in UTF-8 in the file {0:?}")]
+    NoText(&'a str),
+    /// What standard input gives in place of lines.
+    #[error("FileFault: expected lines in UTF-8 on standard input, got {0}")]
+    NoInput(&'static str),
+    /// The line of this number on standard input has more bytes than any that is wanted there.
+    #[error("FileFault: expected the lines that `rpmbd run` or `rpmbd serve` prints on standard \
+        input, got more than 32768 bytes in line {0}")]
+    LongLine(u64),
+    #[error("FileFault: expected room on standard output")]
+    NoRoom,
+    #[error("NoMemory")]
+    NoMemory,
+    /// Of this and the two that follow the flaw is told behind, in words.
+    #[error("BadBoard: the board file {0:?}: ")]
+    BadBoard(&'a str),
+    #[error("BadScript: the script {0:?}: ")]
+    BadScript(&'a str),
     /// The image that a board file names is there, and is none of that board.
-    #[error("BadImage: the image of the board file {0:?}: {1}")]
-    BadImage(&'a str, String),
+    #[error("BadImage: the image of the board file {0:?}: ")]
+    BadImage(&'a str),
+}
+
+/// A refusal for a flaw, whose words are put into `flaw`.
+pub(crate) fn flawed<'a>(
+    words: Result<String, AllocError>,
+    refusal: Refusal<'a>,
+    flaw: &mut String,
+) -> Refusal<'a> {
+    match words {
+        Ok(words) => {
+            *flaw = words;
+            refusal
+        }
+        Err(_) => Refusal::NoMemory,
+    }
 }
 
 impl<'a> Refusal<'a> {
@@ -112,8 +144,8 @@ impl<'a> Refusal<'a> {
         ensures { result ≡ refusal_status self.now }
     {
         match self {
-            Refusal::RefusedAnswer(_, _, _) => 3,
-            Refusal::Refused(_) => 3,
+            Refusal::Answer(AnswerRefusal::RefusedAnswer(_, _, _)) => 3,
+            Refusal::Answer(AnswerRefusal::Refused(_)) => 3,
             _ => 1,
         }
     }
@@ -121,7 +153,7 @@ impl<'a> Refusal<'a> {
     /// A bit for each of the results that requests were refused with.
     pub(crate) fn results(&self) -> u64 {
         match self {
-            Refusal::RefusedAnswer(_, _, results) => *results,
+            Refusal::Answer(AnswerRefusal::RefusedAnswer(_, _, results)) => *results,
             _ => 0,
         }
     }
@@ -147,5 +179,19 @@ impl<'a> From<OptionRefusal<'a>> for Refusal<'a> {
             OptionRefusal::NoMemory => Refusal::NoMemory,
             _ => Refusal::Option(refusal),
         }
+    }
+}
+
+/// As it is told. For the checker: a derived one has an exit for each variant.
+impl<'a> fmt::Debug for Refusal<'a> {
+    fn fmt<W: fmt::Write>(&self, f: &mut fmt::Formatter<W>) -> fmt::Result {
+        write!(f, "{self}")
+    }
+}
+
+/// As it is told.
+impl fmt::Debug for AnswerRefusal {
+    fn fmt<W: fmt::Write>(&self, f: &mut fmt::Formatter<W>) -> fmt::Result {
+        write!(f, "{self}")
     }
 }

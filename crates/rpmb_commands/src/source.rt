@@ -42,7 +42,7 @@ pub(crate) const LONG_PATH: &str = "the path is too long";
 const NUL_PATH: &str = "the path has a byte of zero (NUL), or another that no path has";
 
 /// Why a file isn't read.
-#[derive(Clone, Copy, Debug)]
+#[derive(Clone, Copy)]
 pub enum SourceError {
     /// It can't be read, for this reason.
     NoFile(&'static str),
@@ -53,7 +53,7 @@ pub enum SourceError {
 }
 
 /// How a file begins.
-#[derive(Debug, Drop)]
+#[derive(Drop)]
 pub enum Front {
     /// Nothing has its name.
     Absent,
@@ -195,19 +195,5 @@ pub(crate) fn content_of<'a, S: Source>(
         Err(SourceError::NoFile(why)) => Err(Refusal::NoFile(name, why)),
         Err(SourceError::TooLong) => Err(Refusal::TooLong(name, most)),
         Err(SourceError::NoMemory) => Err(Refusal::NoMemory),
-    }
-}
-
-/// The text of a file, or the refusal that names it.
-pub(crate) fn text_of<'a, S: Source>(
-    alloc: Global,
-    source: &S,
-    name: &'a str,
-    most: usize,
-) -> Result<String, Refusal<'a>> {
-    let bytes = content_of(alloc, source, name, most)?;
-    match String::from_utf8(bytes) {
-        Ok(text) => Ok(text),
-        Err(_) => Err(Refusal::NoText(name)),
     }
 }

@@ -46,7 +46,7 @@ impl<'a> Words<'a> {
 }
 
 /// Why words give no command.
-#[derive(Debug, Drop)]
+#[derive(Drop)]
 pub enum WordsError {
     /// They are wrong, or ask for help. The error has the text, and says by `use_stderr` to which
     /// stream it goes and by `exit_code` the status: 0 for help, else 2.
@@ -66,16 +66,19 @@ fn keys<'a>(alloc: Global, matches: &ArgMatches<'a>) -> Result<Vec<&'a str>, All
     Ok(keys)
 }
 
+/// The values of a command's options, of those that have one.
 fn found<'a>(
-    alloc: Global,
     command: &'a str,
+    operation: Option<&'a str>,
+    board: Option<&'a str>,
+    keys: Vec<&'a str>,
     matches: &ArgMatches<'a>,
-) -> Result<Words<'a>, AllocError> {
-    Ok(Words {
+) -> Words<'a> {
+    Words {
         command,
-        operation: None,
+        operation,
         guest: matches.get_str("guest"),
-        keys: keys(alloc, matches)?,
+        keys,
         nonce: matches.get_str("nonce"),
         counter: matches.get_str("counter"),
         address: matches.get_str("address"),
@@ -84,12 +87,12 @@ fn found<'a>(
         file: matches.get_str("file"),
         most: matches.get_str("max-blocks"),
         length: matches.get_str("length"),
-        board: matches.get_str("BOARD"),
+        board,
         script: matches.get_str("SCRIPT"),
         no_result: matches.get_flag("no-result"),
         pad: matches.get_flag("pad"),
         json: matches.get_flag("json"),
-    })
+    }
 }
 
 /// The words of a command, or those of an operation of `do` on its board.
@@ -98,13 +101,24 @@ fn all_found<'a>(
     command: &'a str,
     matches: &ArgMatches<'a>,
 ) -> Result<Words<'a>, AllocError> {
-    match matches.subcommand() {
-        Some((operation, inner)) => Ok(Words {
-            operation: Some(operation),
-            board: matches.get_str("BOARD"),
-            ..found(alloc, command, inner)?
-        }),
-        None => found(alloc, command, matches),
+    let board = matches.get_str("BOARD");
+    let (operation, inner) = match matches.subcommand() {
+        Some((operation, inner)) => (Some(operation), inner),
+        None => (None, matches),
+    };
+    let keys = keys(alloc, inner)?;
+    Ok(found(command, operation, board, keys, inner))
+}
+
+/// The words of the command that was found, where there is memory for them.
+// for the checker: apart from what reads them, so that what is found is dropped at one exit
+fn words_in<'a>(alloc: Global, matches: &ArgMatches<'a>) -> Result<Words<'a>, WordsError> {
+    let Some((name, inner)) = matches.subcommand() else {
+        return Err(WordsError::NoMemory);
+    };
+    match all_found(alloc, name, inner) {
+        Ok(words) => Ok(words),
+        Err(_) => Err(WordsError::NoMemory),
     }
 }
 
@@ -126,13 +140,7 @@ pub fn read_words<'a, S: AsStr>(alloc: Global, words: &'a [S]) -> Result<Words<'
         return Err(WordsError::NoMemory);
     };
     match command.try_get_matches_from(words) {
-        Ok(matches) => match matches.subcommand() {
-            Some((name, inner)) => match all_found(alloc, name, inner) {
-                Ok(words) => Ok(words),
-                Err(_) => Err(WordsError::NoMemory),
-            },
-            None => Err(WordsError::NoMemory),
-        },
+        Ok(matches) => words_in(alloc, &matches),
         Err(error) => Err(refused(error)),
     }
 }

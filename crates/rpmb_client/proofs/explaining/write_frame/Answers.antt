@@ -1,12 +1,10 @@
 use Rattle.std.proofs.Common.{rules}
-use Rattle.rpmb_client.proofs.Printing.{line_of_parts}
+use Rattle.rpmb_client.proofs.Printing.{frame_of_parts}
 use Rattle.rpmb_client.proofs.explaining.write_frame.Goals as goal
 
 pub returns : goal.returns
 returns g c =
-    line_of_parts c.write_text.result _ (g.W.Write.contents c.write_place.new.out)
-    (g.W.Write.contents c.write_front.new.out) (g.W.Write.contents c.write_counter.new.out)
-    (g.W.Write.contents c.write_fields.new.out) (g.W.Write.contents c.write_checks.new.out) _ _ _ _
-    _ _
-    (search rules) (search rules) c.in_ok-write_counter.ensures (search rules) (search rules)
-    (search rules)
+    frame_of_parts c.write_end.result _ (g.W.Write.contents c.write_place.new.out)
+    (g.W.Write.contents c.write_kinds.new.out) (g.W.Write.contents c.write_counter.new.out)
+    (g.W.Write.contents c.write_fields.new.out) (g.W.Write.contents c.judge.new.out) _ _ _ _ _ _ _
+    (search rules) (search rules) (search rules) (search rules) (search rules) (search rules)

@@ -3,6 +3,7 @@ use Rattle.rpmb_client.specs.Finding.{counted}
 use Rattle.rpmb_client.specs.Seen.{chosen}
 use Rattle.rpmb_commands.specs.ReadingData.{WhyNoAnswer, answer_none, answer_unread}
 use Rattle.rpmb_commands.specs.ReadingData.{replies_in}
+use Rattle.rpmb_commands.specs.declared.refusal.AnswerRefusal.TheVariants as answer
 use Rattle.rpmb_commands.specs.declared.refusal.Refusal.TheVariants as refusal
 use Rattle.rpmb_commands.proofs.DataLemmas.{each_text, map_some}
 use Rattle.rpmb_commands.proofs.WholeText.{answer_cut, counted_cut}
@@ -27,8 +28,10 @@ returns-clause-err g c =
     map_some (g.B.Read.remaining c.args.input.now) _ _ c.in-Ok.ensures.found (λ text found.
     answer_none (sym (answer_cut nonce text found.0 found.1)
     ∙ sym (c.answer.ensures.answer nonce found.0 found.2) ∙ ap chosen c.in-Replies.is)
-    (ap (λ n. refusal.NoAnswer n.0 n.1) (sym (c.answer.ensures.counts _ _ c.in-Replies.is))
-    ∙ ap (λ n. refusal.NoAnswer n c.in-Ok.finder.counts.1) (found.2.count_is
+    (ap (λ n. refusal.Answer (answer.NoAnswer n.0 n.1))
+    (sym (c.answer.ensures.counts _ _ c.in-Replies.is))
+    ∙ ap (λ n. refusal.Answer (answer.NoAnswer n c.in-Ok.finder.counts.1)) (found.2.count_is
     ∙ counted_cut None text found.0 found.1)
-    ∙ ap (refusal.NoAnswer (counted (replies_in None text))) (found.2.asked_count_is
+    ∙ ap (λ n. refusal.Answer (answer.NoAnswer (counted (replies_in None text)) n))
+    (found.2.asked_count_is
     ∙ counted_cut (Some nonce) text found.0 found.1)))
