@@ -20,51 +20,41 @@ formatted_line len = codes "formatted " ++ decimal len ++ 10 ∷ []
 
 -- 2. `show`
 
-abbrev pub key_word : Option (List ℕ) → List ℕ
-key_word None = codes "no"
-key_word (Some key) = codes "yes"
-
 -- the line of a guest
-unfoldable pub guest_line : ℕ → Partition → List ℕ
-guest_line guest p = codes "guest " ++ decimal guest ++ codes " capacity " ++ decimal p.capacity
-    ++ codes " key " ++ key_word p.key ++ codes " counter " ++ decimal p.counter ++ 10 ∷ []
+unfoldable pub guest_line : ℕ → ℕ → Bool → ℕ → List ℕ
+guest_line guest capacity key counter =
+    codes "guest " ++ decimal guest ++ codes " capacity " ++ decimal capacity
+    ++ codes " key " ++ (if key then codes "yes" else codes "no")
+    ++ codes " counter " ++ decimal counter ++ 10 ∷ []
 
--- the line of a block, two digits a byte
-unfoldable pub block_line : ℕ → ℕ → List ℕ → List ℕ
-block_line guest address block = codes "block " ++ decimal guest ++ codes " " ++ decimal address
-    ++ codes " " ++ encode_lower block ++ 10 ∷ []
-
--- the same in JSON, an object a line (RFC 8259)
-unfoldable pub guest_members : ℕ → ℕ → Bool → ℕ → List ℕ
-guest_members guest capacity key counter =
+-- and its object in JSON (RFC 8259)
+unfoldable pub guest_object : ℕ → ℕ → Bool → ℕ → List ℕ
+guest_object guest capacity key counter =
     codes "{\"guest\":" ++ (decimal guest ++ (codes ",\"capacity\":" ++ (decimal capacity
     ++ (codes ",\"key\":" ++ ((if key then codes "true" else codes "false")
     ++ (codes ",\"counter\":" ++ (decimal counter ++ (codes "}" ++ 10 ∷ []))))))))
 
-abbrev pub guest_object : ℕ → Partition → List ℕ
-guest_object guest p = guest_members guest p.capacity (is_some p.key) p.counter
-
-unfoldable pub block_members : ℕ → ℕ → List ℕ
-block_members guest address =
-    codes "{\"guest\":" ++ (decimal guest ++ (codes ",\"address\":" ++ (decimal address
-    ++ codes ",\"data\":")))
-
--- the digits between quotes
-abbrev pub quoted_digits : List ℕ → List ℕ
-quoted_digits block = 34 ∷ encode_lower block ++ 34 ∷ []
-
-abbrev pub block_object : ℕ → ℕ → List ℕ → List ℕ
-block_object guest address block =
-    block_members guest address ++ (quoted_digits block ++ (125 ∷ 10 ∷ []))
-
--- in the form that is asked for
-
+-- the one that is asked for
 abbrev pub guest_shown : Bool → ℕ → Partition → List ℕ
-guest_shown as_json guest p = if as_json then guest_object guest p else guest_line guest p
+guest_shown as_json guest p =
+    if as_json then guest_object guest p.capacity (is_some p.key) p.counter
+    else guest_line guest p.capacity (is_some p.key) p.counter
+
+-- a block has two digits a byte; what stands before them in its line or object, and behind them
+unfoldable pub block_front : Bool → ℕ → ℕ → List ℕ
+block_front as_json guest address =
+    if as_json
+    then codes "{\"guest\":" ++ (decimal guest ++ (codes ",\"address\":" ++ (decimal address
+    ++ codes ",\"data\":\"")))
+    else codes "block " ++ decimal guest ++ codes " " ++ decimal address ++ codes " "
+
+abbrev pub block_end : Bool → List ℕ
+block_end as_json = if as_json then codes "\"}" else []
 
 abbrev pub some_block : Bool → ℕ → ℕ → List ℕ → List ℕ
 some_block as_json guest address block =
-    if as_json then block_object guest address block else block_line guest address block
+    block_front as_json guest address
+    ++ (encode_lower block ++ (block_end as_json ++ 10 ∷ []))
 
 -- a block of zeros isn't shown
 abbrev pub block_shown : Bool → ℕ → ℕ → List ℕ → List ℕ

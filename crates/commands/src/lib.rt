@@ -15,7 +15,6 @@ mod formatting;
 mod fresh;
 mod image_files;
 mod notes;
-mod objects;
 mod program;
 mod reason;
 mod running;

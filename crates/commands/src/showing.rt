@@ -8,11 +8,10 @@ ghost use Rattle.intent_slots.specs.Layout.{capacities_of};
 ghost use Rattle.recovery.specs.Opening.{IsImage, Untouched};
 ghost use Rattle.rpmb_frame.specs.Partition.{IsWhole, block_count, block_of};
 ghost use Rattle.commands.specs.Ending.{Ends, IsReadAlone, KeepsUnless, showing};
-ghost use Rattle.commands.specs.Listing.{Lists, block_line, block_shown, blocks_below, guest_line};
+ghost use Rattle.commands.specs.Listing.{Lists, block_end, block_front, block_shown, blocks_below};
 ghost use Rattle.commands.specs.Listing.{guest_listing, guest_shown, listing, some_block};
 
 use crate::fault::Fault;
-use crate::objects::{write_block_object, write_guest_object};
 use disk::Disk;
 use recovery::open;
 use rpmb_core::Partition;
@@ -20,20 +19,34 @@ use rpmb_frame::BoardConfig;
 use std::alloc::Global;
 use std::io::Write;
 
-/// Writes the line of a guest: its capacity, whether it has a key, and its write counter.
-#[tactic(auto, unfolding(crate::specs::Listing::guest_line))]
-fn write_guest_line<W: Write>(guest: u16, partition: &Partition, out: &mut W) -> Result<(), Fault>
+/// Writes a guest without its blocks, in JSON where that is asked for: its capacity, whether it has
+/// a key, and its write counter.
+#[tactic(auto, unfolding(crate::specs::Listing::guest_line, crate::specs::Listing::guest_object))]
+fn write_guest_alone<W: Write>(
+    guest: u16,
+    partition: &Partition,
+    as_json: bool,
+    out: &mut W,
+) -> Result<(), Fault>
     ensures printed { OnOk result
-        (Appends (W.contents out.old) (W.contents out.new) (guest_line guest partition.now)) }
+        (Appends (W.contents out.old) (W.contents out.new)
+        (guest_shown as_json guest partition.now)) }
     ensures whole { IsWhole partition.now }
     ensures only { (fault : Fault) → result ≡ Err fault → fault ≡ Fault.FileFault }
 {
-    let key = match partition.key() {
-        Some(_) => "yes",
-        None => "no",
-    };
+    let has_key = partition.key().is_some();
     let capacity = partition.capacity();
     let counter = partition.counter();
+    if as_json {
+        return match writeln!(
+            out,
+            "{{\"guest\":{guest},\"capacity\":{capacity},\"key\":{has_key},\"counter\":{counter}}}"
+        ) {
+            Ok(()) => Ok(()),
+            Err(_) => Err(Fault::FileFault),
+        };
+    }
+    let key = if has_key { "yes" } else { "no" };
     match writeln!(
         out,
         "guest {guest} capacity {capacity} key {key} counter {counter}"
@@ -43,33 +56,30 @@ fn write_guest_line<W: Write>(guest: u16, partition: &Partition, out: &mut W) ->
     }
 }
 
-/// Writes the line of a block.
-#[tactic(auto, unfolding(crate::specs::Listing::block_line))]
-fn write_block_line<W: Write>(
-    guest: u16,
-    address: u16,
-    block: &[u8; 256],
-    out: &mut W,
-) -> Result<(), Fault>
+/// Writes which block it is, up to its digits.
+#[tactic(auto, unfolding(crate::specs::Listing::block_front))]
+fn write_front<W: Write>(guest: u16, address: u16, as_json: bool, out: &mut W) -> Result<(), Fault>
     ensures printed { OnOk result (Appends (W.contents out.old) (W.contents out.new)
-        (block_line guest address block.now)) }
+        (block_front as_json guest address)) }
     ensures only { (fault : Fault) → result ≡ Err fault → fault ≡ Fault.FileFault }
 {
-    let mut digits = [0; 512];
-    match hex::encode_to_slice(block.as_slice(), &mut digits) {
-        Ok(()) => {}
-        Err(_) => unreachable!(),
+    if as_json {
+        return match write!(out, "{{\"guest\":{guest},\"address\":{address},\"data\":\"") {
+            Ok(()) => Ok(()),
+            Err(_) => Err(Fault::FileFault),
+        };
     }
-    if write!(out, "block {guest} {address} ").is_err() {
-        return Err(Fault::FileFault);
-    }
-    if out.write_all(&digits).is_err() {
-        return Err(Fault::FileFault);
-    }
-    match out.write_all(b"\n") {
+    match write!(out, "block {guest} {address} ") {
         Ok(()) => Ok(()),
         Err(_) => Err(Fault::FileFault),
     }
+}
+
+/// What stands behind the digits of a block in its line.
+fn block_end(as_json: bool) -> &'static str
+    ensures { result.now ≡ block_end as_json }
+{
+    if as_json { "\"}" } else { "" }
 }
 
 /// Writes a block, in JSON where that is asked for.
@@ -84,10 +94,20 @@ fn write_some_block<W: Write>(
         (some_block as_json guest address block.now)) }
     ensures only { (fault : Fault) → result ≡ Err fault → fault ≡ Fault.FileFault }
 {
-    if as_json {
-        return write_block_object(guest, address, block, out);
+    let mut digits = [0; 512];
+    match hex::encode_to_slice(block.as_slice(), &mut digits) {
+        Ok(()) => {}
+        Err(_) => unreachable!(),
     }
-    write_block_line(guest, address, block, out)
+    write_front(guest, address, as_json, out)?;
+    if out.write_all(&digits).is_err() {
+        return Err(Fault::FileFault);
+    }
+    let end = block_end(as_json);
+    match writeln!(out, "{end}") {
+        Ok(()) => Ok(()),
+        Err(_) => Err(Fault::FileFault),
+    }
 }
 
 /// Writes a block, unless it is all zeros.
@@ -126,25 +146,6 @@ fn write_blocks<W: Write>(
         write_block(guest, address, &partition.block(address), as_json, out)?;
     }
     Ok(())
-}
-
-/// Writes a guest without its blocks, in JSON where that is asked for.
-fn write_guest_alone<W: Write>(
-    guest: u16,
-    partition: &Partition,
-    as_json: bool,
-    out: &mut W,
-) -> Result<(), Fault>
-    ensures printed { OnOk result
-        (Appends (W.contents out.old) (W.contents out.new)
-        (guest_shown as_json guest partition.now)) }
-    ensures whole { IsWhole partition.now }
-    ensures only { (fault : Fault) → result ≡ Err fault → fault ≡ Fault.FileFault }
-{
-    if as_json {
-        return write_guest_object(guest, partition, out);
-    }
-    write_guest_line(guest, partition, out)
 }
 
 /// Writes a guest, and then its blocks.
