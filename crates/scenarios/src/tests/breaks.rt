@@ -46,8 +46,8 @@ fn a_break_fails_what_is_not_settled(rt: HostRuntime) -> Result<(), Fail> {
 }
 
 /// One request of each kind, of guest 1, to a book that is broken: a failure of each, with the type
-/// of its response, and nothing where there is no room. Then of guest 0 as many reads as may wait: a
-/// broken book refuses a guest's job only where 64 replies of it are held.
+/// of its response, and nothing where there is no room. Then of guest 0 as many reads as may wait:
+/// a broken book refuses a guest's job only where 64 replies of it are held.
 static EACH_KIND: [Line; 20] = [
     Line::BreakOff,
     Line::Ask(1, Asked::Key(0x11)),

@@ -163,8 +163,8 @@ fn stops_lose_nothing_of_several_as_one_in_two_slots(rt: HostRuntime) -> Result<
     check_stops(rt.alloc(), &TOGETHER_BESIDE)
 }
 
-/// Whether a guest was told of each of its four requests: a reply needs all up to its request. Where
-/// a call has failed, failures may come from some request on, and need nothing.
+/// Whether a guest was told of each of its four requests: a reply needs all up to its request.
+/// Where a call has failed, failures may come from some request on, and need nothing.
 fn are_told(published: &[Publication], failed: bool) -> bool {
     let mut right = true;
     for (publication, need) in published.iter().zip(1..5_u64) {

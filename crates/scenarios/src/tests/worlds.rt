@@ -286,8 +286,8 @@ static FOUR_WRITES: [Move; 6] = [
     Move::Advances(4),
 ];
 
-/// What is seen after a stop within the sync of their gate, which is the fourth of their calls: none
-/// of them, or all four.
+/// What is seen after a stop within the sync of their gate, which is the fourth of their calls:
+/// none of them, or all four.
 static NONE: [Sight; 3] = [Sight::Refused(None), Sight::Counter(0), Sight::Accepted(1)];
 
 static ALL_FOUR: [Sight; 3] = [Sight::Refused(None), Sight::Counter(4), Sight::Accepted(5)];
