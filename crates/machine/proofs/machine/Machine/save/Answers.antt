@@ -7,7 +7,8 @@ use Rattle.machine.proofs.machine.Machine.save.Goals as goal
 
 pub returns-in_default-rest_at-clause-cause : goal.returns-in_default-rest_at-clause-cause
 returns-in_default-rest_at-clause-cause c =
-    NotYet refl (sym c.if-not-has.ensures) (c.rest_at.ensures.none c.in_default-rest_at.is)
+    NotYet refl (sym c.if-not-has.ensures) (search rules)
+    (c.rest_at.ensures.none c.in_default-rest_at.is)
 
 pub returns-clause-saved : goal.returns-clause-saved
 returns-clause-saved c =
