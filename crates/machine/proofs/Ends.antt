@@ -39,3 +39,22 @@ module _ {D : Type 0} (g : ℕ) (old : BoardState D) where
           ∙ ap (λ o. slice_get (put old.dones g o) g) is
           ∙ get_set_same old.dones g None (Some r) was in
           absurd (let e = sym none ∙ ap in_place full in cc)
+
+  -- and which changed nothing
+  pub collected_same : (answer : Answer) (new : BoardState D) (place : Option (Option Done))
+      → slice_get old.dones g ≡ place
+      → CollectsInto g place answer old new → in_place (slice_get new.dones g) ≡ None → new ≡ old
+  collected_same answer new None was does none = does.1
+  collected_same answer new (Some (Some r)) was does none = does.1
+  collected_same answer new (Some None) was does none = by (due_of old.book g) refl
+    where
+      by : (o : Option Done) → due_of old.book g ≡ o → new ≡ old
+      by None is = does.1 ∙ ap (λ o. (let b : BoardState D = record old {
+        book = if is_some o then with_turn old.book (Collect g) else old.book;
+        dones = put old.dones g o;
+      } in b)) is
+      by (Some r) is =
+          let full = ap (λ b. slice_get b.dones g) does.1
+          ∙ ap (λ o. slice_get (put old.dones g o) g) is
+          ∙ get_set_same old.dones g None (Some r) was in
+          absurd (let e = sym none ∙ ap in_place full in cc)

@@ -1,5 +1,5 @@
 -- One move of a serve after another.
-use Rattle.std.proofs.Common.{◌≡◌, ◌⊎◌, inl, inr, refl, ap, sym, subst, ◌∙◌, ℕ, Bool, true, false}
+use Rattle.std.proofs.Common.{◌≡◌, inl, inr, refl, ap, sym, subst, ◌∙◌, ℕ, Bool, true, false}
 use Rattle.std.proofs.Common.{List, [], Option, Some, None, Ok, Err, length}
 use Rattle.std.proofs.Common.{IfSome, arith}
 use Rattle.std.specs.Prelude.{nat_le, nat_lt}
@@ -10,18 +10,15 @@ use Rattle.chains.specs.Needs.{OfArea}
 use Rattle.mmio_transport.specs.Asking.{Asks, Notifies, NotifiesOf, NotifiesWhere, PopNeeds}
 use Rattle.mmio_transport.specs.Queue.{QueueState}
 use Rattle.board.specs.Asking.{ForPop}
-use Rattle.board.specs.State.{HasNoJob, waiting}
+use Rattle.board.specs.State.{in_place}
 use Rattle.machine.proofs.Common.{slice_get, AskingState, Boards, MachineFault, Range, Runs}
-use Rattle.machine.specs.Ending.{AsksIn, FindsNone, HasReason, HasSeenAll, IsHandedOn}
-use Rattle.machine.specs.Ending.{NeedsNext, RestsAt}
-use Rattle.machine.specs.Ending.{SawAll, Went, is_write, left_by}
-use Rattle.machine.specs.Serving.{HasNoReply, SameDevices}
-use Rattle.machine.specs.Turn.{TurnState, stand_of}
+use Rattle.machine.specs.Ending.{FindsNone, GoesOnFor, HasEnded, HasSeenAll, IsHandedOn}
+use Rattle.machine.specs.Ending.{NeedsNext, NotifiesNext, RestsAt, SawAll, Went, is_write, left_by}
+use Rattle.machine.specs.Serving.{HasNoReply, KeepsWaiting, SameDevices}
+use Rattle.machine.specs.Turn.{Stand, TurnState, stand_of}
 use Rattle.machine.specs.declared.serving.Next.{Next}
 use Rattle.machine.specs.declared.serving.Next.TheVariants as next
-use Rattle.machine.specs.declared.taking.Taken.{Taken}
-use Rattle.machine.specs.declared.taking.Taken.TheVariants as taken
-use Rattle.machine.proofs.Runs.{runs_twice}
+use Rattle.machine.proofs.Runs.{runs_twice, then_does}
 
 -- 1. Whether the driver is to be notified
 
@@ -78,22 +75,37 @@ module _ (a a' : AskingState) where
 -- 2. Moves
 
 module _ (guest most : ℕ) where
+  -- with some steps more before them
+  pub busy_after : (s t : Stand) (a b c : Boards) (u : TurnState) (n : Option Next)
+      → Runs guest s a t b → GoesOnFor guest t b u c n → GoesOnFor guest s a u c n
+  busy_after s t a b c u None runs does = then_does guest s t (stand_of u) a b c runs does
+  busy_after s t a b c u (Some next.Again) runs (inl does) =
+      inl (then_does guest s t (stand_of u) a b c runs does)
+  busy_after s t a b c u (Some next.Again) runs (inr waits) = inr waits
+  busy_after s t a b c u (Some (next.Read ask)) runs busy = tt
+  busy_after s t a b c u (Some (next.Write part)) runs busy = tt
+  busy_after s t a b c u (Some next.Call) runs busy = tt
+  busy_after s t a b c u (Some (next.Rest f)) runs busy = tt
+
   pub went_after : (t0 t1 t2 : TurnState) (a b c : Boards) (n : Option Next)
       → Runs guest (stand_of t0) a (stand_of t1) b → length b.devices ≡ length a.devices
       → t1.asked ≡ t0.asked → Went guest most t1 t2 b c n → Went guest most t0 t2 a c n
   went_after t0 t1 t2 a b c n runs count asked went = record {
     runs = runs_twice guest (stand_of t0) (stand_of t1) (left_by n t2) a b c runs went.runs;
     needs = went.needs;
+    busy = busy_after (stand_of t0) (stand_of t1) a b c t2 n runs went.busy;
     count = went.count ∙ count;
     asked = went.asked ∙ asked;
   }
 
   pub went_by : (t t' : TurnState) (a b : Boards) (n : Option Next)
       → Runs guest (stand_of t) a (left_by n t') b → NeedsNext guest most t'.parts b n
+      → GoesOnFor guest (stand_of t) a t' b n
       → length b.devices ≡ length a.devices → t'.asked ≡ t.asked → Went guest most t t' a b n
-  went_by t t' a b n runs needs count asked = record {
+  went_by t t' a b n runs needs busy count asked = record {
     runs = runs;
     needs = needs;
+    busy = busy;
     count = count;
     asked = asked;
   }
@@ -108,52 +120,53 @@ module _ (guest most : ℕ) where
     none = found.none;
   }
 
-  pub rests_by : (a b : Boards) (t : Taken) → b.rest ≡ a.rest → SameDevices a b
-      → ((t ≡ taken.Nothing) ⊎ ((t ≡ taken.Limit) × (nat_lt (waiting guest a.rest) most ≡ false)))
-      → is_write (next_call a.rest.store.broken a.rest.store.guests) ≡ false
-      → (t ≡ taken.Nothing → FindsNone guest a)
-      → ((t ≡ taken.Nothing) ⊎ (t ≡ taken.Limit) → HasNoJob guest a.rest)
-      → IsHandedOn guest a.rest → HasNoReply guest a.rest → HasSeenAll guest b
-      → RestsAt guest most b
-  rests_by a b t rest same (inl nothing) writes found jobs handed replies seen =
-      subst (λ r. RestsAt guest most (record b { rest = r })) (sym rest) (record {
-        jobs = jobs (inl nothing);
-        taken = inl (let f = finds_same a b same (found nothing) in
-            record { device = f.device; its = f.its; before = f.before; none = f.none });
-        handed = handed;
-        replies = replies;
-        seen = seen;
-        writes = writes;
-      })
-  rests_by a b t rest same (inr full) writes found jobs handed replies seen =
-      subst (λ r. RestsAt guest most (record b { rest = r })) (sym rest) (record {
-        jobs = jobs (inr full.0);
-        taken = inr full.1;
-        handed = handed;
-        replies = replies;
-        seen = seen;
-        writes = writes;
-      })
+  pub ended_same : (a b : Boards) (f : Option MachineFault) → SameDevices a b
+      → KeepsWaiting guest a.rest b.rest → HasEnded guest most a f → HasEnded guest most b f
+  ended_same a b None same keeps ended = (
+    ap (λ js. in_place (slice_get js guest)) keeps.0 ∙ ended.0,
+    elim ended.1 [
+      | inl found ↦ inl (let f = finds_same a b same found in
+          record { device = f.device; its = f.its; before = f.before; none = f.none })
+      | inr full ↦ inr (ap (λ n. nat_lt n most) keeps.1 ∙ full)
+    ],
+  )
+  ended_same a b (Some f) same keeps ended = ended
+
+  rests_by : (b : Boards)
+      → is_write (next_call b.rest.store.broken b.rest.store.guests) ≡ false
+      → HasEnded guest most b None → IsHandedOn guest b.rest → HasNoReply guest b.rest
+      → HasSeenAll guest b → RestsAt guest most b
+  rests_by b writes ended handed replies seen = record {
+    jobs = ended.0;
+    taken = ended.1;
+    handed = handed;
+    replies = replies;
+    seen = seen;
+    writes = writes;
+  }
 
   pub rest_needs : (ps : List Range) (b : Boards) (o : Option MachineFault)
-      → (o ≡ None → RestsAt guest most b × (ps ≡ []))
-      → ((f : MachineFault) → o ≡ Some f → HasReason guest f)
+      → HasEnded guest most b o → IsHandedOn guest b.rest → HasNoReply guest b.rest
+      → HasSeenAll guest b
+      → is_write (next_call b.rest.store.broken b.rest.store.guests) ≡ false → ps ≡ []
       → NeedsNext guest most ps b (Some (next.Rest o))
-  rest_needs ps b None rests why = rests refl
-  rest_needs ps b (Some f) rests why = why f refl
+  rest_needs ps b None ended handed replies seen writes none =
+      (rests_by b writes ended handed replies seen, none)
+  rest_needs ps b (Some f) ended handed replies seen writes none = ended
 
-  pub some_needs : (ps : List Range) (b : Boards) (n : Next)
-      → ((ask : Ask) → Some n ≡ Some (next.Read ask) → AsksIn guest ask b)
-      → ((f : Option MachineFault) → Some n ≡ Some (next.Rest f) → ⊥)
-      → NeedsNext guest most ps b (Some n)
-  some_needs ps b next.Again asks rest = tt
-  some_needs ps b (next.Read ask) asks rest = asks ask refl
-  some_needs ps b (next.Write part) asks rest = tt
-  some_needs ps b next.Call asks rest = tt
-  some_needs ps b (next.Rest f) asks rest = absurd (rest f refl)
+  pub notified_needs : (ps : List Range) (b : Boards) (o : Option Next) → NotifiesNext guest b o
+      → NeedsNext guest most ps b o
+  notified_needs ps b None needs = tt
+  notified_needs ps b (Some next.Again) needs = tt
+  notified_needs ps b (Some (next.Read ask)) needs = needs
+  notified_needs ps b (Some (next.Write part)) needs = tt
+  notified_needs ps b (Some next.Call) needs = tt
+  notified_needs ps b (Some (next.Rest f)) needs = absurd needs
 
-  pub notified_needs : (ps : List Range) (b : Boards) (o : Option Next)
-      → ((ask : Ask) → o ≡ Some (next.Read ask) → AsksIn guest ask b)
-      → ((f : Option MachineFault) → o ≡ Some (next.Rest f) → ⊥) → NeedsNext guest most ps b o
-  notified_needs ps b None asks rest = tt
-  notified_needs ps b (Some n) asks rest = some_needs ps b n asks rest
+  pub notified_busy : (s : Stand) (a b : Boards) (t : TurnState) (n : Next)
+      → NotifiesNext guest b (Some n) → GoesOnFor guest s a t b (Some n)
+  notified_busy s a b t next.Again needs = absurd needs
+  notified_busy s a b t (next.Read ask) needs = tt
+  notified_busy s a b t (next.Write part) needs = tt
+  notified_busy s a b t next.Call needs = tt
+  notified_busy s a b t (next.Rest f) needs = tt

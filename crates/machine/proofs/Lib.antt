@@ -4,7 +4,7 @@ pub mod Completing
 pub mod Ends
 pub mod Formatting
 pub mod Goings
-pub mod Jobs
+pub mod Handed
 pub mod Replies
 pub mod Rests
 pub mod Moved
@@ -14,4 +14,5 @@ pub mod Runs
 pub mod States
 pub mod Stops
 pub mod Told
+pub mod Waiting
 pub mod Writing

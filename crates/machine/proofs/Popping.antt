@@ -1,5 +1,5 @@
 -- What a pop of the guest's device comes to.
-use Rattle.std.proofs.Common.{◌≡◌, ◌<◌, ◌⊎◌, ap, sym, subst, ◌∙◌, ℕ, Bool, true, false}
+use Rattle.std.proofs.Common.{◌≡◌, ◌≢◌, ◌<◌, ◌⊎◌, inl, ap, sym, subst, ◌∙◌, ℕ, Bool, true, false}
 use Rattle.std.proofs.Common.{List, [], ◌∷◌, ◌++◌, Option, Some, None, Result, Ok, Err, length, get_or}
 use Rattle.std.proofs.Common.{arith, IfSome}
 use Rattle.machine.proofs.Common.{slice_get, slice_set, Answer, AskingState, BoardState, Boards}
@@ -13,6 +13,7 @@ use Rattle.board.specs.Steps.{job_of, pop_answer}
 use Rattle.board.specs.declared.step.Seen.TheVariants.{Did, Nothing}
 use Rattle.board.specs.declared.step.Step.TheVariants as step
 use Rattle.machine.specs.Ending.{FindsNone}
+use Rattle.machine.specs.Serving.{ByPop, DoesSome}
 use Rattle.machine.specs.Turn.{pop_parts}
 
 -- there is an element at each index below the length
@@ -46,6 +47,17 @@ pops_by guest qs v answer b b' d its makes over parts =
       its = its;
       parts_are = parts;
     }))
+
+-- and where it gave a chain something was done
+pub pops_does : (guest : ℕ) (qs : List Range) (v : Bool) (answer : Answer) (b b' : Boards)
+    (d : AskingState) → slice_get b.devices guest ≡ Some d → Makes (step.Pop guest) answer b b'
+    → v ≡ false → qs ≡ pop_parts d.device → answer ≢ Ok Nothing
+    → DoesSome guest (standing [] true) b (standing qs v) b'
+pops_does guest qs v answer b b' d its makes over parts some =
+    subst (λ h. DoesSome guest (standing [] true) b (standing qs h) b') (sym over)
+    (ByPop (standing [] true) (standing qs false) qs b b b' b' answer (Still (standing [] true) b)
+    (record { makes = makes; device = d; its = its; parts_are = inl parts }) some
+    (Still (standing qs false) b'))
 
 -- the parts that were noted of the guest's device
 pub noted_at : (o : Option AskingState) (d : AskingState) (ps qs : List Range) → o ≡ Some d

@@ -10,7 +10,7 @@ use Rattle.board.proofs.Common.{append-nil, append_assoc, slice_get-map}
 use Rattle.mmio_transport.specs.Queue.{QueueState}
 use Rattle.mmio_transport.specs.Written.{queue_parts}
 use Rattle.mmio_transport.specs.declared.done.Published.{Published}
-use Rattle.machine.specs.Serving.{IsNoted}
+use Rattle.machine.specs.Serving.{ByReply, DoesSome, IsNoted}
 use Rattle.machine.specs.Turn.{filled_part, filled_parts, reply_parts}
 
 pub hands_by : (guest : ℕ) (qs : List Range) (v : Bool) (published : Published) (b b' : Boards)
@@ -24,6 +24,16 @@ hands_by guest qs v published b b' h over parts =
       hands = h;
       parts_are = parts;
     }))
+
+pub hands_does : (guest : ℕ) (qs : List Range) (v : Bool) (published : Published) (b b' : Boards)
+    (h : HandsReply outbox_state OutboxMakes guest published b b') → v ≡ false
+    → qs ≡ reply_parts h.device.device h.done published
+    → DoesSome guest (standing [] true) b (standing qs v) b'
+hands_does guest qs v published b b' h over parts =
+    subst (λ g. DoesSome guest (standing [] true) b (standing qs g) b') (sym over)
+    (ByReply (standing [] true) (standing qs false) qs b b b' b' (Still (standing [] true) b)
+    (record { published = published; hands = h; parts_are = parts })
+    (Still (standing qs false) b'))
 
 pub noted_reply : (guest : ℕ) (ps : List Range) (b : Boards) (d : AskingState) (done : Done)
     → IsNoted guest ps b → in_place (slice_get b.rest.dones guest) ≡ Some done

@@ -8,7 +8,7 @@ use Rattle.mmio_transport.specs.Device.{is_ready}
 use Rattle.mmio_transport.specs.Resting.{IsSaved, MayGoOn, going_on}
 use Rattle.mmio_transport.specs.declared.saving.RestingDevice.{RestingDevice}
 use Rattle.machine.specs.Machine.{with_device}
-use Rattle.machine.specs.Resting.{GoesOnAs, HasGuest, IsUnrested, NoOne, RestsAs, Unrested}
+use Rattle.machine.specs.Resting.{HasGuest, IsUnrested, RestsAs, Unrested}
 use Rattle.machine.specs.Resting.{goes_on, rests}
 use Rattle.machine.specs.Turn.{TurnState, fresh_turn}
 use Rattle.machine.specs.declared.settings.Setup.{Setup}

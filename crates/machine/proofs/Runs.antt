@@ -1,11 +1,13 @@
 -- What serves a guest, one part after another.
-use Rattle.std.proofs.Common.{◌≡◌, ap, sym, subst, ◌∙◌, ℕ, Bool, true, false, List, []}
+use Rattle.std.proofs.Common.{◌≡◌, ◌≢◌, ap, sym, subst, ◌∙◌, ℕ, Bool, true, false, List, [], Ok}
 use Rattle.machine.proofs.Common.{slice_set, OutboxMakes, OutboxState, outbox_state}
 use Rattle.machine.proofs.Common.{AskingState, BoardState, board_of, with_devices, Moves, moves_none}
 use Rattle.machine.proofs.Common.{moves_twice, lent_moves, Answer, Step, Range, Boards, Calls, Hands}
 use Rattle.machine.proofs.Common.{IsShare, Knows, LearnsOf, Makes, Pops, Runs}
 use Rattle.machine.proofs.Common.{Still, Then, Voids, GivesUp, Stand, standing}
 use Rattle.board.proofs.AskingSteps.{device_in, map-set}
+use Rattle.board.specs.declared.step.Seen.TheVariants.{Nothing}
+use Rattle.machine.specs.Serving.{ByPop, ByReply, ByStep, ByStop, DoesSome}
 
 module _ (guest : ℕ) where
   pub runs_twice : (s t u : Stand) (a b c : Boards) → Runs guest s a t b → Runs guest t b u c
@@ -43,7 +45,39 @@ module _ (guest : ℕ) where
   pub still_on : (s t u : Stand) (a b : Boards) → u ≡ t → Runs guest s a t b → Runs guest s a u b
   still_on s t u a b same runs = subst (λ r. Runs guest s a r b) (sym same) runs
 
-  -- 1. All of it moves a board
+  -- 1. Something was done among the steps
+
+  pub does_then : (s t u : Stand) (a b c : Boards) → DoesSome guest s a t b → Runs guest t b u c
+      → DoesSome guest s a u c
+  does_then s t u a b c (ByStep r v w x y z d o answer before share makes some after) more =
+      ByStep s v u a y z c o answer before share makes some (runs_twice v t u z b c after more)
+  does_then s t u a b c (ByPop r w qs x y z d answer before pops some after) more =
+      ByPop s u qs a y z c answer before pops some
+      (runs_twice (standing qs false) t u z b c after more)
+  does_then s t u a b c (ByReply r w qs x y z d before hands after) more =
+      ByReply s u qs a y z c before hands (runs_twice (standing qs false) t u z b c after more)
+  does_then s t u a b c (ByStop r w qs g x y z d before refuses after) more =
+      ByStop s u qs g a y z c before refuses (runs_twice (standing [] g) t u z b c after more)
+
+  pub then_does : (s t u : Stand) (a b c : Boards) → Runs guest s a t b → DoesSome guest t b u c
+      → DoesSome guest s a u c
+  then_does s t u a b c first (ByStep r v w x y z d o answer before share makes some after) =
+      ByStep s v u a y z c o answer (runs_twice s t v a b y first before) share makes some after
+  then_does s t u a b c first (ByPop r w qs x y z d answer before pops some after) =
+      ByPop s u qs a y z c answer (runs_twice s t (standing [] true) a b y first before) pops some
+      after
+  then_does s t u a b c first (ByReply r w qs x y z d before hands after) =
+      ByReply s u qs a y z c (runs_twice s t (standing [] true) a b y first before) hands after
+  then_does s t u a b c first (ByStop r w qs g x y z d before refuses after) =
+      ByStop s u qs g a y z c (runs_twice s t (standing qs g) a b y first before) refuses after
+
+  -- a step that no device makes, and that isn't for nothing
+  pub does_step : (s : Stand) (a b : Boards) (x : Step) (answer : Answer) → IsShare guest x
+      → Makes x answer a b → answer ≢ Ok Nothing → DoesSome guest s a s b
+  does_step s a b x answer share makes some =
+      ByStep s s s a a b b x answer (Still s a) share makes some (Still s b)
+
+  -- 2. All of it moves a board
 
   device_moves : (a b : Boards) (d : AskingState)
       → b ≡ record a { devices = slice_set a.devices guest d }

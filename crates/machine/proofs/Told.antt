@@ -8,7 +8,7 @@ use Rattle.guest_memory.specs.declared.ask.Ask.{Ask}
 use Rattle.machine.proofs.Common.{◌&&◌, slice_get, slice_set, is_some, get_set_same, AskingState}
 use Rattle.machine.proofs.Common.{Boards, MachineState, Range, Runs}
 use Rattle.board.specs.State.{owes}
-use Rattle.machine.specs.Ending.{HasReason, NeedsNext, NeedsTold, left_by}
+use Rattle.machine.specs.Ending.{HasReason, IsBusy, NeedsNext, NeedsTold, left_by}
 use Rattle.machine.specs.Machine.{IsTold, NeedsOf, NoRoom, NoSuchGuest, OfBoard, ReadsOf, RestsIn}
 use Rattle.machine.specs.Machine.{TellsOf, has_guest, is_over, left_of, turn_in, turn_of}
 use Rattle.machine.specs.Machine.{waits_for_sync}
@@ -43,16 +43,21 @@ module _ (guest most : ℕ) (turn : TurnState) (bytes : List ℕ) (new : Boards)
 -- as the machine tells it
 module _ (guest room : ℕ) (old new : MachineState) (w : Setup) (bytes : List ℕ)
     (setup : slice_get old.setups guest ≡ Some w) where
+  abbrev Busy : Type 0
+  Busy = IsBusy guest (stand_of (turn_of old guest)) old.board (stand_of (turn_of new guest))
+      new.board
+
   pub needs_of : (n : Next) (s : Served) → IsTold n s
-      → NeedsTold guest (most_of w) (turn_of new guest) bytes new.board n → NeedsOf guest room s.what s bytes old new
-  needs_of next.Again s told needs =
-      subst (λ x. NeedsOf guest room x s bytes old new) (sym told.0) tt
-  needs_of (next.Read ask) s told needs =
+      → NeedsTold guest (most_of w) (turn_of new guest) bytes new.board n
+      → (n ≡ next.Again → Busy) → NeedsOf guest room s.what s bytes old new
+  needs_of next.Again s told needs busy =
+      subst (λ x. NeedsOf guest room x s bytes old new) (sym told.0) (busy refl)
+  needs_of (next.Read ask) s told needs busy =
       subst (λ x. NeedsOf guest room x s bytes old new) (sym told.0)
       (subst (λ at. ReadsOf guest at s.len new) (sym told.2)
       (subst (λ len. ReadsOf guest ask.at len new) (sym told.3)
       (record { asks = needs.0; few = needs.1; noted = needs.2 })))
-  needs_of (next.Write part) s told needs =
+  needs_of (next.Write part) s told needs busy =
       subst (λ x. NeedsOf guest room x s bytes old new) (sym told.0)
       (record {
         bytes_are = subst (λ at. IfSome (slice_get new.board.devices guest) (λ d.
@@ -61,14 +66,14 @@ module _ (guest room : ℕ) (old new : MachineState) (w : Setup) (bytes : List �
             take len bytes ≡ bytes_at d.device.memory part.at len)) (sym told.3) needs.1);
         noted = needs.0;
       })
-  needs_of next.Call s told needs =
+  needs_of next.Call s told needs busy =
       subst (λ x. NeedsOf guest room x s bytes old new) (sym told.0) tt
-  needs_of (next.Rest None) s told needs =
+  needs_of (next.Rest None) s told needs busy =
       subst (λ x. NeedsOf guest room x s bytes old new) (sym told.0) (
         (λ none. subst (λ o. RestsIn guest o new) (sym setup) needs),
         (λ f some. absurd (let no = told.1 in let yes_ = some in cc)),
       )
-  needs_of (next.Rest (Some f)) s told needs =
+  needs_of (next.Rest (Some f)) s told needs busy =
       subst (λ x. NeedsOf guest room x s bytes old new) (sym told.0) (
         (λ none. absurd (let no = told.1 in let yes_ = none in cc)),
         (λ g some. OfBoard (subst (λ x. HasReason guest x)
@@ -163,10 +168,11 @@ module _ (m : MachineState) (guest : ℕ) where
       → slice_get m.turns guest ≡ Some turn → has_guest m guest ≡ true → most ≡ most_of w
       → IsTold n s → Runs guest (stand_of turn) m.board (left_by (Some n) turn') new
       → NeedsTold guest most turn' bytes new n
+      → (n ≡ next.Again → IsBusy guest (stand_of turn) m.board (stand_of turn') new)
       → s.sync ≡ (is_over s.what && waits_for_sync new.rest) → s.waiting ≡ owes guest new.rest
       → TellsOf guest room s bytes m
       (record m { board = new; turns = slice_set m.turns guest turn' })
-  tells_of room most w turn turn' new bytes n s setup its there limit told runs needs sync waiting =
+  tells_of room most w turn turn' new bytes n s setup its there limit told runs needs busy sync waiting =
       let m' : MachineState = record m {
         board = new;
         turns =
@@ -181,7 +187,10 @@ module _ (m : MachineState) (guest : ℕ) where
             (subst (λ u. Runs guest (stand_of turn) m.board u new) (left_told n s turn' told) runs));
         needs = needs_of guest room m m' w bytes setup n s told
             (subst (λ t. NeedsTold guest (most_of w) t bytes new n) set
-            (subst (λ k. NeedsTold guest k turn' bytes new n) limit needs));
+            (subst (λ k. NeedsTold guest k turn' bytes new n) limit needs))
+            (λ again. subst (λ t. IsBusy guest (stand_of (turn_of m guest)) m.board (stand_of t) new)
+            set (subst (λ o. IsBusy guest (stand_of (turn_in o)) m.board (stand_of turn') new)
+            (sym its) (busy again)));
         sync = sync;
         waiting = waiting;
         absent = λ gone. absurd (let no = sym there ∙ gone in cc);

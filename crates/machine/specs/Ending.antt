@@ -1,7 +1,9 @@
 -- What a serve ends with: what it asks for, where it rests, and why it tells a fault.
-use Rattle.std.specs.Prelude.{◌≡◌, ◌⊎◌, ◌≤◌, ℕ, Bool, true, false, nat_lt, List, [], ◌∷◌, length, Option, Some}
+use Rattle.std.specs.Prelude.{◌≡◌, ◌≢◌, ◌⊎◌, ◌≤◌, ℕ, Bool, true, false, nat_lt, List, [], ◌∷◌, length, Option, Some}
 use Rattle.std.specs.Prelude.{None, Ok, Err, IfSome, map, nat_le, slice_get, slice_set, take, ◌<◌}
 use Rattle.chains.specs.declared.range.Range.{Range}
+use Rattle.disk.specs.Outbox.{has_room}
+use Rattle.disk.specs.OutboxDisk.{OutboxState}
 use Rattle.flusher.specs.Store.{is_free, next_call}
 use Rattle.flusher.specs.declared.progress.Call.{Call}
 use Rattle.flusher.specs.declared.progress.Call.TheVariants as call
@@ -20,7 +22,7 @@ use Rattle.board.specs.declared.step.Step.{Step}
 use Rattle.board.specs.declared.step.Step.TheVariants as step
 use Rattle.board.specs.declared.step.StepFault.{StepFault}
 use Rattle.board.specs.declared.step.StepFault.TheVariants as step_fault
-use Rattle.machine.specs.Serving.{Boards, HasNoReply, Makes, RefusesIn, Runs, standing}
+use Rattle.machine.specs.Serving.{Boards, DoesSome, HasNoReply, Makes, RefusesIn, Runs, standing}
 use Rattle.machine.specs.declared.fault.MachineFault.{MachineFault}
 use Rattle.machine.specs.declared.fault.MachineFault.TheVariants as fault
 use Rattle.machine.specs.Turn.{Stand, TurnState, stand_of}
@@ -60,14 +62,20 @@ is_write call.Write = true
 is_write call.Sync = false
 is_write call.None = false
 
+-- for a write that comes next there is no room: the largest has 16,648 bytes
+abbrev pub HasRoomForNone : BoardState OutboxState → Type 0
+HasRoomForNone b = is_write (next_call b.store.broken b.store.guests) ≡ true
+    → has_room 16648 b.store.disk.outbox ≡ false
+
 -- All of a guest that was accepted is with the store, as far as its slots are free: an intent that
--- was taken waits for one, and where none was taken the book has none to give. And the book has
--- heard of the disk's last call.
-pub record IsHandedOn {D : Type 0} (guest : ℕ) (b : BoardState D) : Type 0 where
+-- was taken waits for one, and where none was taken the book has none to give. The book has heard of
+-- the disk's last call, and no write could be made.
+pub record IsHandedOn (guest : ℕ) (b : BoardState OutboxState) : Type 0 where
   pub heard : b.report ≡ None
   pub place : (i : Intent) → in_place (slice_get b.intents guest) ≡ Some i
       → is_free b.store.guests guest ≡ false
   pub due : slice_get b.intents guest ≡ Some None → next_intent b.book b.shares guest ≡ None
+  pub room : HasRoomForNone b
 
 -- A guest rests: no chain of it lies without its answer, and none is available, or as many wait for
 -- their answers as may; what was accepted of it is handed on; no reply of it may leave, and whether
@@ -104,6 +112,24 @@ pub data HasReason (guest : ℕ) (f : MachineFault) : Type 0 where
       → Makes s (Err e) before after → f ≡ reason_of e → HasReason guest f
   Lacks : f ≡ fault.NoMemory → HasReason guest f
 
+-- No more of the guest's chains is taken: none lies without its answer, and none is available, or as
+-- many wait for their answers as may. Or it is for a reason.
+abbrev pub HasEnded : (guest most : ℕ) → Boards → Option MachineFault → Type 0
+HasEnded guest most b None =
+    HasNoJob guest b.rest × (FindsNone guest b ⊎ (nat_lt (waiting guest b.rest) most ≡ false))
+HasEnded guest most b (Some f) = HasReason guest f
+
+-- what became of the next chain, on a board where these parts are left to be copied out
+abbrev pub IsTaken : (guest most : ℕ) → List Range → Boards → Taken → Type 0
+IsTaken guest most ps b (taken.Asks ask) = AsksIn guest ask b × (ps ≡ [])
+IsTaken guest most ps b taken.Did = Unit {0}
+IsTaken guest most ps b taken.Nothing = HasEnded guest most b None × (ps ≡ [])
+IsTaken guest most ps b (taken.Refused f) = HasEnded guest most b (Some f) × (ps ≡ [])
+
+-- something was done, or what a pop wrote that found no chain is to be copied out
+abbrev pub TookSome : ℕ → Stand → Boards → TurnState → Boards → Type 0
+TookSome guest s a turn b = DoesSome guest s a (stand_of turn) b ⊎ (turn.parts ≢ [])
+
 -- What is needed next, on a board where these parts are left: the bytes that its device asks for;
 -- that a part is copied out, or the driver notified; or nothing, since the guest rests, or for a
 -- reason.
@@ -126,11 +152,39 @@ left_by (Some (next.Write part)) turn = standing (part ∷ turn.parts) turn.goin
 left_by (Some next.Call) turn = record (stand_of turn) { owed = true }
 left_by (Some (next.Rest f)) turn = stand_of turn
 
+-- whether the driver is to be notified was seen: what that needs
+abbrev pub NotifiesNext : ℕ → Boards → Option Next → Type 0
+NotifiesNext guest b None = Unit {0}
+NotifiesNext guest b (Some next.Again) = ⊥
+NotifiesNext guest b (Some (next.Read ask)) = AsksIn guest ask b
+NotifiesNext guest b (Some (next.Write part)) = ⊥
+NotifiesNext guest b (Some next.Call) = Unit {0}
+NotifiesNext guest b (Some (next.Rest f)) = ⊥
+
+-- a write comes next, and there is no room for one
+pub record AwaitsRoom (b : BoardState OutboxState) : Type 0 where
+  pub write : is_write (next_call b.store.broken b.store.guests) ≡ true
+  pub full : has_room 16648 b.store.disk.outbox ≡ false
+
+-- Why a serve is to be called again: it did something, or a write waits for room.
+abbrev pub IsBusy : ℕ → Stand → Boards → Stand → Boards → Type 0
+IsBusy guest s a t b = DoesSome guest s a t b ⊎ AwaitsRoom b.rest
+
+-- Where a move needs nothing it did something; and where the serve is to be called again it is busy.
+abbrev pub GoesOnFor : ℕ → Stand → Boards → TurnState → Boards → Option Next → Type 0
+GoesOnFor guest s a turn b None = DoesSome guest s a (stand_of turn) b
+GoesOnFor guest s a turn b (Some next.Again) = IsBusy guest s a (stand_of turn) b
+GoesOnFor guest s a turn b (Some (next.Read ask)) = Unit {0}
+GoesOnFor guest s a turn b (Some (next.Write part)) = Unit {0}
+GoesOnFor guest s a turn b (Some next.Call) = Unit {0}
+GoesOnFor guest s a turn b (Some (next.Rest f)) = Unit {0}
+
 -- A move of a serve, and what it needs next.
 pub record Went (guest most : ℕ) (turn turn' : TurnState) (old new : Boards) (n : Option Next)
     : Type 0 where
   pub runs : Runs guest (stand_of turn) old (left_by n turn') new
   pub needs : NeedsNext guest most turn'.parts new n
+  pub busy : GoesOnFor guest (stand_of turn) old turn' new n
   pub count : length new.devices ≡ length old.devices
   pub asked : turn'.asked ≡ turn.asked
 

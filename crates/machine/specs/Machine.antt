@@ -24,7 +24,7 @@ use Rattle.board.specs.Asking.{board_of}
 use Rattle.board.specs.State.{BoardState, owes}
 use Rattle.board.specs.Telling.{telling}
 use Rattle.board.specs.Moving.{Moves}
-use Rattle.machine.specs.Ending.{AsksIn, HasReason, RestsAt}
+use Rattle.machine.specs.Ending.{AsksIn, HasReason, IsBusy, RestsAt}
 use Rattle.machine.specs.Serving.{Boards, Hears, OthersStay, Runs, standing}
 use Rattle.machine.specs.Settings.{device_after, most_of, value_shown, value_taken}
 use Rattle.machine.specs.Turn.{Stand, TurnState, fresh_turn, stand_of}
@@ -158,7 +158,8 @@ NeedsOf guest room what.Rest s bytes old new =
 NeedsOf guest room what.Read s bytes old new = ReadsOf guest s.at s.len new
 NeedsOf guest room what.Write s bytes old new = WritesOf guest s.at s.len bytes new
 NeedsOf guest room what.Call s bytes old new = Unit {0}
-NeedsOf guest room what.Again s bytes old new = Unit {0}
+NeedsOf guest room what.Again s bytes old new =
+    IsBusy guest (stand_of (turn_of old guest)) old.board (stand_of (turn_of new guest)) new.board
 
 -- Where the guest's steps stand behind a serve that tells this: a part that is to be written isn't in
 -- its memory yet, and comes before all that is left; and its driver is notified where that is told,

@@ -2,7 +2,6 @@
 use Rattle.std.specs.Prelude.{◌≡◌, ℕ, ◌==◌, ◌&&◌, ◌%◌, Bool, true, false, List, length, Option, Some}
 use Rattle.std.specs.Prelude.{None, slice_get}
 use Rattle.mmio_transport.specs.Asking.{AskingState}
-use Rattle.mmio_transport.specs.Queue.{QueueState}
 use Rattle.mmio_transport.specs.Resting.{IsSaved, MayGoOn, at_place, going_on, is_at_rest}
 use Rattle.mmio_transport.specs.Resting.{place_of}
 use Rattle.mmio_transport.specs.declared.saving.RestingDevice.{RestingDevice}

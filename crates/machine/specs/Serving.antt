@@ -9,9 +9,9 @@ use Rattle.mmio_transport.specs.Written.{queue_parts}
 use Rattle.mmio_transport.specs.declared.done.Published.{Published}
 use Rattle.guest_memory.specs.Memory.{kept}
 use Rattle.board.specs.Asking.{AskingBoardState, HandsReply, StepsAsked}
-use Rattle.board.specs.State.{BoardState, in_place}
+use Rattle.board.specs.State.{BoardState, in_place, waiting}
 use Rattle.board.specs.Steps.{Answer}
-use Rattle.board.specs.declared.step.Seen.TheVariants.{Did}
+use Rattle.board.specs.declared.step.Seen.TheVariants.{Did, Nothing}
 use Rattle.board.specs.declared.step.Step.{Step}
 use Rattle.board.specs.declared.step.Step.TheVariants as step
 use Rattle.rpmb_book.specs.Book.{due_of}
@@ -145,6 +145,23 @@ pub data Runs (guest : ℕ) : Stand → Boards → Stand → Boards → Type 0 w
   Voids : (s : Stand) (qs : List Range) (g : Bool) (a b c : Boards)
       → Runs guest s a (standing qs g) b → RefusesIn guest b c → Runs guest s a (standing [] g) c
 
+-- Something was done among such steps: one of them did what it is for, or was refused; a chain was
+-- popped; a reply was handed to its device; or the device was stopped, since there is no memory
+-- where bytes were to be copied.
+pub data DoesSome (guest : ℕ) : Stand → Boards → Stand → Boards → Type 0 where
+  ByStep : (s t u : Stand) (a b c d : Boards) (x : Step) (answer : Answer)
+      → Runs guest s a t b → IsShare guest x → Makes x answer b c → answer ≢ Ok Nothing
+      → Runs guest t c u d → DoesSome guest s a u d
+  ByPop : (s u : Stand) (qs : List Range) (a b c d : Boards) (answer : Answer)
+      → Runs guest s a (standing [] true) b → PopsOne guest answer b qs c → answer ≢ Ok Nothing
+      → Runs guest (standing qs false) c u d → DoesSome guest s a u d
+  ByReply : (s u : Stand) (qs : List Range) (a b c d : Boards)
+      → Runs guest s a (standing [] true) b → HandsOne guest b qs c
+      → Runs guest (standing qs false) c u d → DoesSome guest s a u d
+  ByStop : (s u : Stand) (qs : List Range) (g : Bool) (a b c d : Boards)
+      → Runs guest s a (standing qs g) b → RefusesIn guest b c
+      → Runs guest (standing [] g) c u d → DoesSome guest s a u d
+
 -- of every other guest the device stays, and what lies between two steps
 pub record OthersStay {D : Type 0} (guest : ℕ) (old new : BoardState D) : Type 0 where
   pub devices : (k : ℕ) → k ≢ guest → slice_get new.devices k ≡ slice_get old.devices k
@@ -162,6 +179,10 @@ pub record Hears (old new : Boards) : Type 0 where
   pub hears : Makes step.Settle before old heard
   pub makes_it : Makes step.Advance call heard made
   pub hears_it : Makes step.Settle behind made new
+
+-- the jobs stay, and as many chains of the guest wait for their answers
+abbrev pub KeepsWaiting : ℕ → BoardState OutboxState → BoardState OutboxState → Type 0
+KeepsWaiting guest old new = (new.jobs ≡ old.jobs) × (waiting guest new ≡ waiting guest old)
 
 -- no reply of the guest lies between two steps, and the book gives none
 pub record HasNoReply {D : Type 0} (guest : ℕ) (b : BoardState D) : Type 0 where

@@ -1,6 +1,6 @@
 -- What a driver's register writes do, one after another, for a monitor that has a transport of its
 -- own (VIRTIO 1.2, 3.1.1 and 4.2.2).
-use Rattle.std.specs.Prelude.{ℕ, Bool, ◌==◌, ◌&&◌, ◌+◌, ◌*◌, ◌/◌, ◌%◌, if◌then◌else◌}
+use Rattle.std.specs.Prelude.{ℕ, Bool, ◌==◌, ◌&&◌, ◌+◌, ◌/◌, ◌%◌, if◌then◌else◌}
 use Rattle.machine.specs.Machine.{MachineState, shown_in, written_in}
 use Rattle.machine.specs.declared.starting.Areas.{Areas}
 

@@ -4,9 +4,9 @@ ghost use Rattle.std.specs.Prelude.{Bool, Err, IfSome, OnErr, OnOk, Some, slice_
 ghost use Rattle.chains.specs.declared.range.Range.{Range as Part};
 ghost use Rattle.guest_memory.specs.Memory.{IsInside, bytes_at};
 ghost use Rattle.guest_memory.specs.declared.ask.Ask.{Ask};
-ghost use Rattle.machine.specs.Ending.{HearsAnswer, NeedsTold, TakesAnswer, TellsIn};
+ghost use Rattle.machine.specs.Ending.{HearsAnswer, IsBusy, NeedsTold, TakesAnswer, TellsIn};
 ghost use Rattle.machine.specs.Ending.{left_by};
-ghost use Rattle.machine.specs.Serving.{RefusesIn, Runs, standing};
+ghost use Rattle.machine.specs.Serving.{DoesSome, RefusesIn, Runs, standing};
 ghost use Rattle.machine.specs.Turn.{stand_of};
 ghost use Rattle.machine.specs.declared.turn.Asked.TheVariants as asked_of;
 
@@ -127,7 +127,8 @@ fn need(
     requires { guest < length board.old.devices }
     ensures runs { Runs guest (left_by (Some next) turn.old) board.old
         (left_by (Some result) turn.new) board.new }
-    ensures same { (result ≡ next) ⊎ (result ≡ Next.Again) }
+    ensures same { (result ≡ next) ⊎ ((result ≡ Next.Again)
+        × DoesSome guest (left_by (Some next) turn.old) board.old (stand_of turn.new) board.new) }
     ensures board { result ≡ next → (board.new ≡ board.old) × (stand_of turn.new ≡ stand_of turn.old) }
     ensures read { (wanted : Ask) → result ≡ Next.Read wanted
         → (wanted.len ≤ 16384) × (turn.new.asked ≡ asked_of.Read wanted) }
@@ -171,6 +172,8 @@ pub(crate) fn serve_turn(
     ensures runs { Runs guest (stand_of turn.old) board.old (left_by (Some result) turn.new)
         board.new }
     ensures needs { NeedsTold guest most turn.new bytes.new board.new result }
+    ensures busy { result ≡ Next.Again
+        → IsBusy guest (stand_of turn.old) board.old (stand_of turn.new) board.new }
     ensures heard { HearsAnswer guest turn.old.asked is_there bytes.old board.old
         (left_by (Some result) turn.new) board.new (result ≡ Next.Rest (Some MachineFault.NoMemory)) }
 {

@@ -1,9 +1,9 @@
 //! Handing what was accepted to the store, and its writes to the disk.
-ghost use Rattle.std.specs.Prelude.{◌≡◌, ℕ, List, false};
-ghost use Rattle.chains.specs.declared.range.Range.{Range as Part};
+ghost use Rattle.std.specs.Prelude.{◌≡◌, ℕ, List, true, false};
 ghost use Rattle.board.specs.Asking.{board_of};
-ghost use Rattle.machine.specs.Ending.{IsHandedOn};
-ghost use Rattle.machine.specs.Serving.{Hears, Runs};
+ghost use Rattle.flusher.specs.Store.{next_call};
+ghost use Rattle.machine.specs.Ending.{HasRoomForNone, IsHandedOn, is_write};
+ghost use Rattle.machine.specs.Serving.{DoesSome, Hears, KeepsWaiting, Runs};
 ghost use Rattle.machine.specs.Turn.{Stand};
 
 use board::AskingBoard;
@@ -11,76 +11,73 @@ use disk::{MOST_WRITES, OutboxDisk};
 use flusher::Call;
 use intent_slots::PAYLOAD_LENGTH;
 
-/// How many records of one guest a store takes before one of them is settled, and one more.
-const MOST_RECORDS: u32 = 3;
-
-/// Tells the book of the disk's last call, and hands the next of what was accepted of the guest to
-/// the store, up to four requests a record. Whether there was something to do.
-pub(crate) fn hand_on(board: &mut AskingBoard<OutboxDisk>, guest: u16) -> bool
-    ensures runs { (s : Stand) → Runs guest s board.old s board.new }
-    ensures jobs { board.new.rest.jobs ≡ board.old.rest.jobs }
-    ensures devices { board.new.devices ≡ board.old.devices }
-    ensures done { result ≡ false
-        → (board_of board.new ≡ board_of board.old) × IsHandedOn guest board.new.rest }
+/// Whether the next call of the disk is a write.
+pub(crate) fn has_write(board: &AskingBoard<OutboxDisk>) -> bool
+    ensures { result
+        ≡ is_write (next_call board.now.rest.store.broken board.now.rest.store.guests) }
 {
-    let told = board.settle();
-    let taken = board.take(guest);
-    let given = board.give(guest);
-    told | taken | given
-}
-
-/// Hands what was accepted of the guest to the store, while it takes more.
-pub(crate) fn hand_in(board: &mut AskingBoard<OutboxDisk>, guest: u16)
-    ensures runs { (s : Stand) → Runs guest s board.old s board.new }
-    ensures jobs { board.new.rest.jobs ≡ board.old.rest.jobs }
-    ensures devices { board.new.devices ≡ board.old.devices }
-{
-    for _record in 0..MOST_RECORDS {
-        if !hand_on(board, guest) {
-            return;
-        }
+    match board.rest().next_call() {
+        Call::Write => true,
+        Call::Sync => false,
+        Call::None => false,
     }
 }
 
 /// Makes the next call where it is a write, and the outbox has room for the largest. Whether it
-/// was made.
+/// was made: a failure is told to the book next.
 fn write_next(board: &mut AskingBoard<OutboxDisk>) -> bool
     ensures runs { (guest : ℕ) (s : Stand) → Runs guest s board.old s board.new }
-    ensures jobs { board.new.rest.jobs ≡ board.old.rest.jobs }
+    ensures keeps { (guest : ℕ) → KeepsWaiting guest board.old.rest board.new.rest }
     ensures devices { board.new.devices ≡ board.old.devices }
+    ensures made { result ≡ true → (guest : ℕ) (s : Stand)
+        → DoesSome guest s board.old s board.new }
+    ensures none { result ≡ false → board.old.rest.report ≡ None
+        → (board_of board.new ≡ board_of board.old) × HasRoomForNone board.new.rest }
 {
+    if !has_write(board) {
+        return false;
+    }
     if !board.rest().disk().has_room(PAYLOAD_LENGTH) {
         return false;
     }
-    match board.rest().next_call() {
-        Call::Write => {}
-        _ => return false,
+    match board.advance() {
+        Ok(made) => made,
+        Err(_) => true,
     }
-    let _ = board.advance();
-    true
 }
 
-/// Makes writes while they come next and have room.
-fn write_all(board: &mut AskingBoard<OutboxDisk>)
-    ensures runs { (guest : ℕ) (s : Stand) → Runs guest s board.old s board.new }
-    ensures jobs { board.new.rest.jobs ≡ board.old.rest.jobs }
+/// Tells the book of the disk's last call, hands the next of what was accepted of the guest to the
+/// store, up to four requests a record, and makes the disk's next write. Whether there was
+/// something to do.
+fn hand_on(board: &mut AskingBoard<OutboxDisk>, guest: u16) -> bool
+    ensures runs { (s : Stand) → Runs guest s board.old s board.new }
+    ensures keeps { KeepsWaiting guest board.old.rest board.new.rest }
     ensures devices { board.new.devices ≡ board.old.devices }
+    ensures did { result ≡ true → (s : Stand) → DoesSome guest s board.old s board.new }
+    ensures done { result ≡ false → IsHandedOn guest board.new.rest }
 {
-    for _write in 0..MOST_WRITES {
-        if !write_next(board) {
-            return;
+    let told = board.settle();
+    let taken = board.take(guest);
+    let given = board.give(guest);
+    let written = write_next(board);
+    told | taken | given | written
+}
+
+/// Hands on what was accepted of the guest until nothing of it can be. Whether there may be more,
+/// behind as many steps as writes may wait.
+pub(crate) fn hand_all(board: &mut AskingBoard<OutboxDisk>, guest: u16) -> bool
+    ensures runs { (s : Stand) → Runs guest s board.old s board.new }
+    ensures keeps { KeepsWaiting guest board.old.rest board.new.rest }
+    ensures devices { board.new.devices ≡ board.old.devices }
+    ensures did { result ≡ true → (s : Stand) → DoesSome guest s board.old s board.new }
+    ensures done { result ≡ false → IsHandedOn guest board.new.rest }
+{
+    for _step in 1..MOST_WRITES {
+        if !hand_on(board, guest) {
+            return false;
         }
     }
-}
-
-/// Makes writes while they come next and have room. A failure is told to the book.
-pub(crate) fn write_out(board: &mut AskingBoard<OutboxDisk>)
-    ensures runs { (guest : ℕ) (s : Stand) → Runs guest s board.old s board.new }
-    ensures jobs { board.new.rest.jobs ≡ board.old.rest.jobs }
-    ensures devices { board.new.devices ≡ board.old.devices }
-{
-    write_all(board);
-    board.settle();
+    hand_on(board, guest)
 }
 
 /// Makes the call that comes next, and tells the book what came of it.

@@ -1,11 +1,14 @@
 //! Letting replies leave whose need is settled.
 ghost use Rattle.std.specs.Prelude.{◌≡◌, ◌≢◌, ◌<◌, ◌++◌, [], Bool, List, length, true, false};
+ghost use Rattle.std.specs.Prelude.{IsSome, slice_get};
 ghost use Rattle.chains.specs.declared.range.Range.{Range as Part};
 ghost use Rattle.guest_memory.specs.declared.ask.Ask.{Ask};
 ghost use Rattle.mmio_transport.specs.Written.{range_in};
+ghost use Rattle.board.specs.Asking.{board_of};
+ghost use Rattle.board.specs.State.{in_place};
 ghost use Rattle.machine.specs.Ending.{AsksIn};
-ghost use Rattle.machine.specs.Serving.{HasNoReply, IsNoted, QueuesStay, Runs, SameDevices};
-ghost use Rattle.machine.specs.Serving.{standing};
+ghost use Rattle.machine.specs.Serving.{DoesSome, HasNoReply, IsNoted, QueuesStay, Runs};
+ghost use Rattle.machine.specs.Serving.{SameDevices, standing};
 ghost use Rattle.machine.specs.Turn.{KeepsStage, stand_of, filled_part, filled_parts};
 
 use crate::taking::begin;
@@ -143,9 +146,13 @@ fn prepare(board: &mut AskingBoard<OutboxDisk>, guest: u16, turn: &mut Turn) -> 
 
 /// Hands the reply in its place to its device.
 fn publish(board: &mut AskingBoard<OutboxDisk>, guest: u16, turn: &mut Turn) -> Left
+    requires guest { guest < length board.old.devices }
+    requires lies { IsSome (in_place (slice_get board.old.rest.dones guest)) }
     requires noted { IsNoted guest turn.old.parts board.old }
     requires begun { turn.old.going ≡ true }
     ensures runs { Runs guest (standing [] true) board.old (stand_of turn.new) board.new }
+    ensures did { result ≡ Left.Did
+        → DoesSome guest (standing [] true) board.old (stand_of turn.new) board.new }
     ensures idle { result ≢ Left.Did → turn.new.parts ≡ [] }
     ensures asks { (ask : Ask) → result ≡ Left.Asks ask → AsksIn guest ask board.new }
     ensures either { (result ≢ Left.Nothing) × (result ≢ Left.NoMemory) }
@@ -165,10 +172,7 @@ fn publish(board: &mut AskingBoard<OutboxDisk>, guest: u16, turn: &mut Turn) -> 
             turn.stop();
             Left::Did
         }
-        Ok(None) => {
-            turn.stop();
-            Left::Did
-        }
+        Ok(None) => unreachable!(),
     }
 }
 
@@ -178,10 +182,13 @@ pub(crate) fn leave_one(board: &mut AskingBoard<OutboxDisk>, guest: u16, turn: &
     requires guest { guest < length board.old.devices }
     ensures runs { Runs guest (standing [] turn.old.going) board.old (stand_of turn.new)
         board.new }
+    ensures did { result ≡ Left.Did
+        → DoesSome guest (standing [] turn.old.going) board.old (stand_of turn.new) board.new }
     ensures idle { result ≢ Left.Did → turn.new.parts ≡ [] }
     ensures asks { (ask : Ask) → result ≡ Left.Asks ask → AsksIn guest ask board.new }
     ensures nothing { result ≡ Left.Nothing → HasNoReply guest board.new.rest
-        × (board.new.devices ≡ board.old.devices) × (board.new.rest.jobs ≡ board.old.rest.jobs) }
+        × (board.new.devices ≡ board.old.devices)
+        × (board_of board.new ≡ board_of board.old) }
     ensures count { length board.new.devices ≡ length board.old.devices }
     ensures keeps { KeepsStage turn.old turn.new }
 {

@@ -14,7 +14,7 @@ ghost use Rattle.machine.specs.Machine.{has_guest, turn_of, written_in};
 
 use crate::answering::{LARGEST_PART, serve_turn};
 use crate::fault::MachineFault;
-use crate::handing::{go_on, hand_in, write_out};
+use crate::handing::{go_on, hand_all};
 use crate::serving::Next;
 use crate::settings::Setup;
 use crate::turn::Turn;
@@ -229,9 +229,8 @@ impl Machine {
         ensures sync { result ≡ waits_for_sync self.new.board.rest }
     {
         for guest in 0..self.setups.len() {
-            hand_in(&mut self.board, (guest % 65_536) as u16);
+            hand_all(&mut self.board, (guest % 65_536) as u16);
         }
-        write_out(&mut self.board);
         self.waits_for_sync()
     }
 

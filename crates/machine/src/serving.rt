@@ -1,27 +1,20 @@
 //! Serving a guest: taking what it offered, handing it on, letting replies leave, and notifying.
-ghost use Rattle.std.specs.Prelude.{◌≡◌, ◌≢◌, ◌<◌, ◌∷◌, [], List, length, true, false};
-ghost use Rattle.std.specs.Prelude.{◌⊎◌, Option, None, Some, nat_lt};
+ghost use Rattle.std.specs.Prelude.{◌≡◌, ◌<◌, ℕ, [], List, Option, length, Some, None};
 ghost use Rattle.chains.specs.declared.range.Range.{Range as Part};
 ghost use Rattle.guest_memory.specs.declared.ask.Ask.{Ask};
-ghost use Rattle.flusher.specs.Store.{next_call};
-ghost use Rattle.board.specs.State.{HasNoJob, waiting};
-ghost use Rattle.machine.specs.Ending.{AsksIn, FindsNone, HasReason, HasSeenAll, IsHandedOn};
-ghost use Rattle.machine.specs.Ending.{RestsAt, Went};
-ghost use Rattle.machine.specs.Ending.{is_write, left_by};
+ghost use Rattle.machine.specs.Ending.{HasEnded, HasSeenAll, IsHandedOn, NotifiesNext, Went};
+ghost use Rattle.machine.specs.Ending.{left_by};
 ghost use Rattle.machine.specs.Serving.{HasNoReply, Runs, SameDevices, standing};
-ghost use Rattle.machine.specs.Turn.{KeepsStage};
 ghost use Rattle.machine.specs.declared.fault.MachineFault.{MachineFault};
-ghost use Rattle.machine.specs.declared.taking.Taken.TheVariants as taken_as;
 
 use crate::fault::MachineFault;
-use crate::handing::{hand_in, hand_on, write_out};
+use crate::handing::{hand_all, has_write};
 use crate::leaving::{Left, leave_one};
 use crate::taking::{Taken, begin, take_one};
 use crate::turn::{Stage, Turn};
 use board::AskingBoard;
 use chains::Range;
 use disk::OutboxDisk;
-use flusher::Call;
 use guest_memory::Ask;
 
 /// How many moves one call makes before it tells its monitor to call again.
@@ -48,13 +41,11 @@ fn notify(board: &mut AskingBoard<OutboxDisk>, guest: u16, turn: &mut Turn) -> O
     requires parts { turn.old.parts ≡ [] }
     ensures runs { Runs guest (standing [] turn.old.going) board.old (left_by result turn.new)
         board.new }
+    ensures needs { NotifiesNext guest board.new result }
     ensures rest { board.new.rest ≡ board.old.rest }
-    ensures parts { turn.new.parts ≡ turn.old.parts }
-    ensures asks { (ask : Ask) → result ≡ Some (Next.Read ask) → AsksIn guest ask board.new }
     ensures none { result ≡ None
         → SameDevices board.old board.new × HasSeenAll guest board.new }
-    ensures others { (f : Option MachineFault) → result ≢ Some (Next.Rest f) }
-    ensures writes { (part : Part) → result ≢ Some (Next.Write part) }
+    ensures parts { turn.new.parts ≡ turn.old.parts }
     ensures count { length board.new.devices ≡ length board.old.devices }
     ensures asked { turn.new.asked ≡ turn.old.asked }
 {
@@ -75,117 +66,45 @@ fn notify(board: &mut AskingBoard<OutboxDisk>, guest: u16, turn: &mut Turn) -> O
     }
 }
 
-/// Whether the next call of the disk is a write.
-fn has_write(board: &AskingBoard<OutboxDisk>) -> bool
-    ensures { result
-        ≡ is_write (next_call board.now.rest.store.broken board.now.rest.store.guests) }
-{
-    match board.rest().next_call() {
-        Call::Write => true,
-        Call::Sync => false,
-        Call::None => false,
-    }
-}
-
-/// Why the guest rests, after this became of the next chain; `None` where it doesn't rest yet.
-fn why_rests(
-    board: &AskingBoard<OutboxDisk>,
-    guest: u16,
-    most: u16,
-    taken: Taken,
-) -> Option<Option<MachineFault>>
-    ensures rests { result ≡ Some None → (taken ≡ Taken.Nothing)
-        ⊎ ((taken ≡ Taken.Limit) × (nat_lt (waiting guest board.now.rest) most ≡ false)) }
-    ensures writes { result ≡ Some None
-        → is_write (next_call board.now.rest.store.broken board.now.rest.store.guests) ≡ false }
-    ensures fault { (f : MachineFault) → result ≡ Some (Some f) → taken ≡ Taken.Refused f }
-{
-    if has_write(board) {
-        return None;
-    }
-    match taken {
-        Taken::Nothing => Some(None),
-        Taken::Limit => {
-            if board.rest().awaits_fewer(guest, most) {
-                None
-            } else {
-                Some(None)
-            }
-        }
-        Taken::Refused(fault) => Some(Some(fault)),
-        _ => None,
-    }
-}
-
-/// No more is taken or handed on, no reply may leave, and the driver knows of all that left.
+/// No more is taken or handed on, no reply may leave, and the driver knows of all that left: the
+/// guest rests, for this fault or none. Where a write waits for room the serve is to go on.
 fn rest(
     board: &mut AskingBoard<OutboxDisk>,
     guest: u16,
-    most: u16,
     turn: &mut Turn,
-    taken: Taken,
+    fault: Option<MachineFault>,
 ) -> Next
     requires guest { guest < length board.old.devices }
-    requires none { taken ≡ Taken.Nothing → FindsNone guest board.old }
-    requires limit { (taken ≡ Taken.Nothing) ⊎ (taken ≡ Taken.Limit)
-        → HasNoJob guest board.old.rest }
     requires left { IsHandedOn guest board.old.rest × HasNoReply guest board.old.rest
         × HasSeenAll guest board.old }
     requires parts { turn.old.parts ≡ [] }
-    requires fault { (f : MachineFault) → taken ≡ Taken.Refused f → HasReason guest f }
-    ensures went { Went guest most turn.old turn.new board.old board.new (Some result) }
+    ensures went { (most : ℕ) → HasEnded guest most board.old fault
+        → Went guest most turn.old turn.new board.old board.new (Some result) }
 {
-    match why_rests(board, guest, most, taken) {
-        None => Next::Again,
-        Some(fault) => {
-            begin(board, guest, turn);
-            turn.take_next();
-            Next::Rest(fault)
-        }
-    }
-}
-
-/// No reply may leave. Where more can be handed on the guest is to be served again, else it rests.
-fn end(
-    board: &mut AskingBoard<OutboxDisk>,
-    guest: u16,
-    most: u16,
-    turn: &mut Turn,
-    taken: Taken,
-) -> Next
-    requires guest { guest < length board.old.devices }
-    requires none { taken ≡ Taken.Nothing → FindsNone guest board.old }
-    requires limit { (taken ≡ Taken.Nothing) ⊎ (taken ≡ Taken.Limit)
-        → HasNoJob guest board.old.rest }
-    requires left { HasNoReply guest board.old.rest × HasSeenAll guest board.old }
-    requires parts { turn.old.parts ≡ [] }
-    requires fault { (f : MachineFault) → taken ≡ Taken.Refused f → HasReason guest f }
-    ensures went { Went guest most turn.old turn.new board.old board.new (Some result) }
-{
-    if hand_on(board, guest) {
+    if has_write(board) {
         return Next::Again;
     }
-    rest(board, guest, most, turn, taken)
+    begin(board, guest, turn);
+    turn.take_next();
+    Next::Rest(fault)
 }
 
-/// Hands on what was accepted, and lets a reply leave; where there is none the guest rests.
+/// No more is taken, for this fault or none: hands on what was accepted, and lets a reply leave;
+/// where there is none the guest rests.
 fn settle_down(
     board: &mut AskingBoard<OutboxDisk>,
     guest: u16,
-    most: u16,
     turn: &mut Turn,
-    taken: Taken,
+    fault: Option<MachineFault>,
 ) -> Option<Next>
-    requires parts { turn.old.parts ≡ [] }
     requires guest { guest < length board.old.devices }
-    requires none { taken ≡ Taken.Nothing → FindsNone guest board.old }
-    requires limit { (taken ≡ Taken.Nothing) ⊎ (taken ≡ Taken.Limit)
-        → HasNoJob guest board.old.rest }
-    requires fault { (f : MachineFault) → taken ≡ Taken.Refused f → HasReason guest f }
-    ensures went { Went guest most turn.old turn.new board.old board.new result }
+    requires parts { turn.old.parts ≡ [] }
+    ensures went { (most : ℕ) → HasEnded guest most board.old fault
+        → Went guest most turn.old turn.new board.old board.new result }
 {
-    hand_in(board, guest);
-    write_out(board);
+    if hand_all(board, guest) {
+        return None;
+    }
     match leave_one(board, guest, turn) {
         Left::Asks(ask) => {
             turn.go_to(Stage::Leaving);
@@ -201,7 +120,7 @@ fn settle_down(
         }
         Left::Nothing => match notify(board, guest, turn) {
             Some(next) => Some(next),
-            None => Some(end(board, guest, most, turn, taken)),
+            None => Some(rest(board, guest, turn, fault)),
         },
     }
 }
@@ -212,11 +131,26 @@ fn take(board: &mut AskingBoard<OutboxDisk>, guest: u16, most: u16, turn: &mut T
     requires guest { guest < length board.old.devices }
     ensures went { Went guest most turn.old turn.new board.old board.new result }
 {
-    let taken = take_one(board, guest, most, turn);
-    match taken {
+    match take_one(board, guest, most, turn) {
         Taken::Asks(ask) => Some(Next::Read(ask)),
-        Taken::Did => None,
-        _ => settle_down(board, guest, most, turn, taken),
+        Taken::Did => match turn.next_part() {
+            Some(part) => Some(Next::Write(part)),
+            None => None,
+        },
+        Taken::Nothing => settle_down(board, guest, turn, None),
+        Taken::Refused(fault) => settle_down(board, guest, turn, Some(fault)),
+    }
+}
+
+/// Notifies the driver of the replies that left, where it is to be; else takes the next chain.
+fn call(board: &mut AskingBoard<OutboxDisk>, guest: u16, most: u16, turn: &mut Turn) -> Option<Next>
+    requires parts { turn.old.parts ≡ [] }
+    requires guest { guest < length board.old.devices }
+    ensures went { Went guest most turn.old turn.new board.old board.new result }
+{
+    match notify(board, guest, turn) {
+        Some(next) => Some(next),
+        None => take(board, guest, most, turn),
     }
 }
 
@@ -238,14 +172,12 @@ fn leave(
             turn.take_next();
             Some(Next::Rest(Some(MachineFault::NoMemory)))
         }
-        Left::Nothing => {
-            turn.go_to(Stage::Notifying);
-            None
-        }
+        Left::Nothing => call(board, guest, most, turn),
     }
 }
 
-/// Makes the next move of the guest's serve. `None` where the one after it may follow at once.
+/// Makes the next move of the guest's serve. `None` where it did something, and the move after it
+/// may follow at once.
 fn move_on(
     board: &mut AskingBoard<OutboxDisk>,
     guest: u16,
@@ -261,7 +193,7 @@ fn move_on(
     match turn.stage {
         Stage::Taking => take(board, guest, most, turn),
         Stage::Leaving => leave(board, guest, most, turn),
-        Stage::Notifying => notify(board, guest, turn),
+        Stage::Notifying => call(board, guest, most, turn),
     }
 }
 
@@ -275,10 +207,13 @@ pub(crate) fn serve(
     requires { guest < length board.old.devices }
     ensures went { Went guest most turn.old turn.new board.old board.new (Some result) }
 {
-    for _move in 0..MOST_MOVES {
+    for _move in 1..MOST_MOVES {
         if let Some(next) = move_on(board, guest, most, turn) {
             return next;
         }
     }
-    Next::Again
+    match move_on(board, guest, most, turn) {
+        Some(next) => next,
+        None => Next::Again,
+    }
 }

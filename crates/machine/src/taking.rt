@@ -1,13 +1,12 @@
 //! Taking what a guest offered: each chain is popped, and answered by the book.
-ghost use Rattle.std.specs.Prelude.{◌≡◌, ◌≢◌, ◌<◌, ◌⊎◌, ◌++◌, [], List, length};
-ghost use Rattle.std.specs.Prelude.{Bool, false, true, IfSome, slice_get};
+ghost use Rattle.std.specs.Prelude.{◌≡◌, ◌≢◌, ◌<◌, ◌⊎◌, ◌++◌, ℕ, [], List, length};
+ghost use Rattle.std.specs.Prelude.{Bool, false, true, IfSome, IsSome, slice_get};
 ghost use Rattle.chains.specs.declared.range.Range.{Range as Part};
 ghost use Rattle.guest_memory.specs.declared.ask.Ask.{Ask};
-ghost use Rattle.board.specs.State.{HasNoJob};
-ghost use Rattle.machine.specs.Ending.{AsksIn, FindsNone, HasReason, HasSeenAll, IsRefused};
-ghost use Rattle.machine.specs.Serving.{HasNoCopy, Runs, SameDevices, standing};
+ghost use Rattle.board.specs.State.{HasNoJob, in_place};
+ghost use Rattle.machine.specs.Ending.{HasSeenAll, IsRefused, IsTaken, TookSome};
+ghost use Rattle.machine.specs.Serving.{DoesSome, HasNoCopy, Runs, SameDevices, standing};
 ghost use Rattle.machine.specs.Turn.{KeepsStage, Stand, pop_parts, stand_of};
-ghost use Rattle.machine.specs.declared.fault.MachineFault.{MachineFault};
 
 use crate::fault::MachineFault;
 use crate::turn::Turn;
@@ -26,10 +25,8 @@ pub(crate) enum Taken {
     Asks(Ask),
     /// It was taken, or answered by the book; or it was looked for, and is to be once more.
     Did,
-    /// There is none.
+    /// None is available, or as many wait for their answers as may.
     Nothing,
-    /// As many wait for their answers as may.
-    Limit,
     /// It was refused.
     Refused(MachineFault),
 }
@@ -115,7 +112,8 @@ fn is_live(board: &AskingBoard<OutboxDisk>, guest: u16) -> bool {
 /// looked anew: the driver may have offered one before it could see that.
 fn found_none(turn: &mut Turn, is_live: bool) -> Taken
     ensures nothing { result ≢ Taken.Did → turn.new.parts ≡ [] }
-    ensures did { result ≡ Taken.Did → turn.new.parts ≡ turn.old.parts }
+    ensures did { result ≡ Taken.Did
+        → (turn.new.parts ≡ turn.old.parts) × (turn.new.parts ≢ []) }
     ensures either { (result ≡ Taken.Nothing) ⊎ (result ≡ Taken.Did) }
     ensures over { turn.new.going ≡ false }
     ensures keeps { KeepsStage turn.old turn.new }
@@ -136,13 +134,9 @@ fn pop(board: &mut AskingBoard<OutboxDisk>, guest: u16, turn: &mut Turn) -> Take
     requires guest { guest < length board.old.devices }
     requires begun { turn.old.going ≡ true }
     ensures runs { Runs guest (standing [] true) board.old (stand_of turn.new) board.new }
-    ensures idle { result ≢ Taken.Did → turn.new.parts ≡ [] }
-    ensures asks { (ask : Ask) → result ≡ Taken.Asks ask → AsksIn guest ask board.new }
-    ensures none { result ≡ Taken.Nothing
-        → FindsNone guest board.new × HasNoJob guest board.new.rest }
-    ensures fault { (f : MachineFault) → result ≡ Taken.Refused f → HasReason guest f }
-    ensures limit { result ≢ Taken.Limit }
-    ensures job { (ask : Ask) → result ≡ Taken.Asks ask → HasNoJob guest board.new.rest }
+    ensures taken { (most : ℕ) → IsTaken guest most turn.new.parts board.new result }
+    ensures did { result ≡ Taken.Did
+        → TookSome guest (standing [] true) board.old turn.new board.new }
     ensures count { length board.new.devices ≡ length board.old.devices }
     ensures keeps { KeepsStage turn.old turn.new }
 {
@@ -179,12 +173,9 @@ fn look(board: &mut AskingBoard<OutboxDisk>, guest: u16, turn: &mut Turn) -> Tak
     requires guest { guest < length board.old.devices }
     ensures runs { Runs guest (standing [] turn.old.going) board.old (stand_of turn.new)
         board.new }
-    ensures idle { result ≢ Taken.Did → turn.new.parts ≡ [] }
-    ensures asks { (ask : Ask) → result ≡ Taken.Asks ask → AsksIn guest ask board.new }
-    ensures none { result ≡ Taken.Nothing
-        → FindsNone guest board.new × HasNoJob guest board.new.rest }
-    ensures fault { (f : MachineFault) → result ≡ Taken.Refused f → HasReason guest f }
-    ensures limit { result ≢ Taken.Limit }
+    ensures taken { (most : ℕ) → IsTaken guest most turn.new.parts board.new result }
+    ensures did { result ≡ Taken.Did
+        → TookSome guest (standing [] turn.old.going) board.old turn.new board.new }
     ensures count { length board.new.devices ≡ length board.old.devices }
     ensures keeps { KeepsStage turn.old turn.new }
 {
@@ -192,12 +183,16 @@ fn look(board: &mut AskingBoard<OutboxDisk>, guest: u16, turn: &mut Turn) -> Tak
     pop(board, guest, turn)
 }
 
-/// Has the book answer the chain that was popped.
+/// Has the book answer the chain that was popped, and lies in its place.
 fn submit(board: &mut AskingBoard<OutboxDisk>, guest: u16) -> Taken
+    requires guest { guest < length board.old.devices }
+    requires job { IsSome (in_place (slice_get board.old.rest.jobs guest)) }
     ensures runs { (s : Stand) → Runs guest s board.old s board.new }
+    ensures did { result ≡ Taken.Did → (s : Stand) → DoesSome guest s board.old s board.new }
     ensures either { (result ≡ Taken.Did) ⊎ IsRefused guest result }
     ensures devices { board.new.devices ≡ board.old.devices }
 {
+    board.what_always_holds();
     match board.submit(guest) {
         Ok(_) => Taken::Did,
         Err(refused) => Taken::Refused(MachineFault::of_book(refused)),
@@ -216,12 +211,9 @@ pub(crate) fn take_one(
     requires guest { guest < length board.old.devices }
     ensures runs { Runs guest (standing [] turn.old.going) board.old (stand_of turn.new)
         board.new }
-    ensures idle { result ≢ Taken.Did → turn.new.parts ≡ [] }
-    ensures asks { (ask : Ask) → result ≡ Taken.Asks ask → AsksIn guest ask board.new }
-    ensures none { result ≡ Taken.Nothing
-        → FindsNone guest board.new × HasNoJob guest board.new.rest }
-    ensures limit { result ≡ Taken.Limit → HasNoJob guest board.new.rest }
-    ensures fault { (f : MachineFault) → result ≡ Taken.Refused f → HasReason guest f }
+    ensures taken { IsTaken guest most turn.new.parts board.new result }
+    ensures did { result ≡ Taken.Did
+        → TookSome guest (standing [] turn.old.going) board.old turn.new board.new }
     ensures count { length board.new.devices ≡ length board.old.devices }
     ensures keeps { KeepsStage turn.old turn.new }
 {
@@ -229,7 +221,7 @@ pub(crate) fn take_one(
         return submit(board, guest);
     }
     if !board.rest().awaits_fewer(guest, most) {
-        return Taken::Limit;
+        return Taken::Nothing;
     }
     look(board, guest, turn)
 }

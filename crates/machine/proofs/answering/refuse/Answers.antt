@@ -1,6 +1,5 @@
 use Rattle.std.proofs.Common.{ap}
-use Rattle.machine.proofs.Common.{Boards, Still, Voids, standing}
-use Rattle.machine.specs.Serving.{RefusesIn}
+use Rattle.machine.proofs.Common.{Still, Voids, standing}
 use Rattle.machine.proofs.Moved.{moved}
 use Rattle.machine.proofs.answering.refuse.Goals as goal
 

@@ -1,7 +1,9 @@
-use Rattle.std.proofs.Common.{inl, inr, refl, ap, sym, subst, Some}
+use Rattle.std.proofs.Common.{inl, inr, refl, ap, sym, subst, ◌∙◌, Some}
 use Rattle.machine.proofs.Common.{stand_of}
-use Rattle.machine.specs.Ending.{Lacks, NeedsNext, NeedsTold, left_by}
-use Rattle.machine.proofs.Runs.{runs_twice}
+use Rattle.machine.specs.Ending.{GoesOnFor, IsBusy, Lacks, NeedsNext, NeedsTold, left_by}
+use Rattle.machine.specs.declared.serving.Next.TheVariants as next
+use Rattle.machine.proofs.Goings.{busy_after}
+use Rattle.machine.proofs.Runs.{runs_twice, then_does}
 use Rattle.machine.proofs.Told.{told_of}
 use Rattle.machine.proofs.answering.serve_turn.Goals as goal
 
@@ -37,7 +39,32 @@ returns-clause-needs c =
           (subst (λ qs. NeedsNext g m qs e (Some c.serve-next.result)) (sym (ap (λ s. s.parts) stays.1))
           (subst (λ x. NeedsNext g m c.serve-next.new.turn.parts x (Some c.serve-next.result))
           (sym stays.0) c.serve-next.ensures.went.needs))) n.read n.write)
-      | inr again ↦ subst (λ r. NeedsTold g m t c.need.new.out e r) (sym again) tt
+      | inr again ↦ subst (λ r. NeedsTold g m t c.need.new.out e r) (sym again.0) tt
+    ]
+
+pub returns-clause-busy : goal.returns-clause-busy
+returns-clause-busy c again =
+    let g = c.args.guest in
+    let a = c.args.board.now in
+    let b = c.answer.new.board in
+    let d = c.serve-next.new.board in
+    let e = c.need.new.board in
+    let s = stand_of c.args.turn.now in
+    let t = stand_of c.answer.new.turn in
+    let v = c.serve-next.new.turn in
+    let w = c.serve-next.ensures.went in
+    let first = c.answer.ensures.runs in
+    elim c.need.ensures.same [
+      | inl same ↦
+          (let stays = c.need.ensures.board same in
+          let is = sym same ∙ again in
+          let busy = busy_after g c.args.most s t a b d v (Some next.Again) first
+          (subst (λ n. GoesOnFor g t b v d (Some n)) is w.busy) in
+          subst (λ x. IsBusy g s a (stand_of c.need.new.turn) x) (sym stays.0)
+          (subst (λ x. IsBusy g s a x d) (sym stays.1) busy))
+      | inr stopped ↦ inl (then_does g s t (stand_of c.need.new.turn) a b e first
+          (then_does g t (left_by (Some c.serve-next.result) v) (stand_of c.need.new.turn) b d e
+          w.runs stopped.1))
     ]
 
 pub returns-clause-heard : goal.returns-clause-heard

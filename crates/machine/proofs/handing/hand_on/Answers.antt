@@ -1,10 +1,51 @@
-use Rattle.std.proofs.Common.{◌≡◌, refl, ◌∙◌, sym, subst, false, true}
-use Rattle.machine.proofs.Common.{Makes, Runs, Stand, board_of}
+use Rattle.std.proofs.Common.{◌≡◌, refl, Bool, false, true, ℕ}
+use Rattle.std.specs.Prelude.{◌||◌}
+use Rattle.machine.proofs.Common.{Boards, IsShare, Makes, Runs, Stand, Step}
 use Rattle.board.specs.Steps.{did_answer}
 use Rattle.board.specs.declared.step.Step.TheVariants as step
-use Rattle.machine.proofs.Jobs.{gave_jobs, settled_jobs, took_jobs}
-use Rattle.machine.proofs.Runs.{runs_step, runs_twice}
+use Rattle.machine.specs.Serving.{DoesSome}
+use Rattle.machine.proofs.Runs.{does_step, does_then, runs_step, runs_twice, then_does}
+use Rattle.machine.proofs.Waiting.{gave_waits, settled_waits, took_waits, waits_twice}
 use Rattle.machine.proofs.handing.hand_on.Goals as goal
+
+-- one of four steps did something
+module _ (g : ℕ) (s : Stand) (a b d e f : Boards) (first : Runs g s a s b) (second : Runs g s b s d)
+    (third : Runs g s d s e) (fourth : Runs g s e s f) where
+  pub in_all : Runs g s a s f
+  in_all = runs_twice g s s s a b f first
+      (runs_twice g s s s b d f second (runs_twice g s s s d e f third fourth))
+
+  by_first : DoesSome g s a s b → DoesSome g s a s f
+  by_first does = does_then g s s s a b f does
+      (runs_twice g s s s b d f second (runs_twice g s s s d e f third fourth))
+
+  by_second : DoesSome g s b s d → DoesSome g s a s f
+  by_second does = then_does g s s s a b f first
+      (does_then g s s s b d f does (runs_twice g s s s d e f third fourth))
+
+  by_third : DoesSome g s d s e → DoesSome g s a s f
+  by_third does = then_does g s s s a b f first
+      (then_does g s s s b d f second (does_then g s s s d e f does fourth))
+
+  by_fourth : DoesSome g s e s f → DoesSome g s a s f
+  by_fourth does = then_does g s s s a b f first
+      (then_does g s s s b d f second (then_does g s s s d e f third does))
+
+  pub by_one : (told taken given written : Bool)
+      → (told ≡ true → DoesSome g s a s b) → (taken ≡ true → DoesSome g s b s d)
+      → (given ≡ true → DoesSome g s d s e) → (written ≡ true → DoesSome g s e s f)
+      → (told || taken || given || written) ≡ true → DoesSome g s a s f
+  by_one true taken given written one two three four is = by_first (one refl)
+  by_one false true given written one two three four is = by_second (two refl)
+  by_one false false true written one two three four is = by_third (three refl)
+  by_one false false false true one two three four is = by_fourth (four refl)
+  by_one false false false false one two three four is = absurd (let no = is in cc)
+
+did_some : (g : ℕ) (s : Stand) (a b : Boards) (x : Step) (did : Bool) → IsShare g x
+    → Makes x (did_answer did) a b → did ≡ true → DoesSome g s a s b
+did_some g s a b x true share makes is =
+    does_step g s a b x (did_answer true) share makes (λ same. absurd (let no = same in cc))
+did_some g s a b x false share makes is = absurd (let no = is in cc)
 
 pub returns-clause-runs : goal.returns-clause-runs
 returns-clause-runs c s =
@@ -12,14 +53,44 @@ returns-clause-runs c s =
     let a = c.args.board.now in
     let b = c.settle-told.new.self in
     let d = c.take-taken.new.self in
-    runs_twice g s s s a b c.give-given.new.self
+    let e = c.give-given.new.self in
+    in_all g s a b d e c.write_next-written.new.board
     (runs_step g s a b step.Settle _ tt c.settle-told.ensures.steps)
-    (runs_twice g s s s b d c.give-given.new.self
     (runs_step g s b d (step.Take g) _ refl c.take-taken.ensures.steps)
-    (runs_step g s d c.give-given.new.self (step.Give g) _ refl c.give-given.ensures.steps))
+    (runs_step g s d e (step.Give g) _ refl c.give-given.ensures.steps)
+    (c.write_next-written.ensures.runs g s)
 
-pub returns-clause-jobs : goal.returns-clause-jobs
-returns-clause-jobs c =
-    gave_jobs _ c.take-taken.new.self c.give-given.new.self c.args.guest c.give-given.ensures.steps
-    ∙ took_jobs _ c.settle-told.new.self c.take-taken.new.self c.args.guest c.take-taken.ensures.steps
-    ∙ settled_jobs _ c.args.board.now c.settle-told.new.self c.settle-told.ensures.steps
+pub returns-clause-did : goal.returns-clause-did
+returns-clause-did c some s =
+    let g = c.args.guest in
+    let a = c.args.board.now in
+    let b = c.settle-told.new.self in
+    let d = c.take-taken.new.self in
+    let e = c.give-given.new.self in
+    let share : IsShare g (step.Take g) = refl in
+    let share' : IsShare g (step.Give g) = refl in
+    by_one g s a b d e c.write_next-written.new.board
+    (runs_step g s a b step.Settle _ tt c.settle-told.ensures.steps)
+    (runs_step g s b d (step.Take g) _ share c.take-taken.ensures.steps)
+    (runs_step g s d e (step.Give g) _ share' c.give-given.ensures.steps)
+    (c.write_next-written.ensures.runs g s)
+    c.settle-told.result c.take-taken.result c.give-given.result c.write_next-written.result
+    (did_some g s a b step.Settle c.settle-told.result tt c.settle-told.ensures.steps)
+    (did_some g s b d (step.Take g) c.take-taken.result share c.take-taken.ensures.steps)
+    (did_some g s d e (step.Give g) c.give-given.result share' c.give-given.ensures.steps)
+    (λ is. c.write_next-written.ensures.made is g s)
+    (let is = some in cc)
+
+pub returns-clause-keeps : goal.returns-clause-keeps
+returns-clause-keeps c =
+    let g = c.args.guest in
+    let a = c.args.board.now in
+    let b = c.settle-told.new.self in
+    let d = c.take-taken.new.self in
+    let e = c.give-given.new.self in
+    waits_twice g a.rest e.rest c.write_next-written.new.board.rest
+    (waits_twice g a.rest d.rest e.rest
+    (waits_twice g a.rest b.rest d.rest (settled_waits g _ a b c.settle-told.ensures.steps)
+    (took_waits g _ b d g c.take-taken.ensures.steps))
+    (gave_waits g _ d e g c.give-given.ensures.steps))
+    (c.write_next-written.ensures.keeps g)

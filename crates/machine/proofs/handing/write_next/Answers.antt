@@ -1,20 +1,71 @@
-use Rattle.std.proofs.Common.{refl}
-use Rattle.machine.proofs.Common.{Still}
+use Rattle.std.proofs.Common.{◌∙◌, Ok, ap, refl, subst, sym}
+use Rattle.machine.proofs.Common.{Makes, Still}
+use Rattle.board.specs.Steps.{answer_by}
 use Rattle.board.specs.declared.step.Step.TheVariants as step
-use Rattle.machine.proofs.Runs.{runs_step}
+use Rattle.board.specs.declared.step.StepFault.TheVariants as fault
+use Rattle.machine.proofs.Handed.{write_made}
+use Rattle.machine.proofs.Runs.{does_step, runs_step}
+use Rattle.machine.proofs.Waiting.{advanced_waits}
 use Rattle.machine.proofs.handing.write_next.Goals as goal
 
-pub returns-then-not-has_room-clause-runs : goal.returns-then-not-has_room-clause-runs
-returns-then-not-has_room-clause-runs c guest ps = Still ps c.args.board.now
-
-pub returns-in_default : goal.returns-in_default
-returns-in_default c = record {
-  runs = λ guest ps. Still ps c.args.board.now;
-  jobs = refl;
+pub returns-then-not-has_write : goal.returns-then-not-has_write
+returns-then-not-has_write c = record {
+  runs = λ guest s. Still s c.args.board.now;
+  keeps = λ guest. (refl, refl);
   devices = refl;
+  made = λ no guest s. absurd (let yes = no in cc);
+  none = λ no report. (refl, λ write. absurd (let a = write in let b = c.has_write.ensures in
+      let d = c.if-not-has_write.true in cc));
 }
 
-pub returns-clause-runs : goal.returns-clause-runs
-returns-clause-runs c guest ps =
-    runs_step guest ps c.args.board.now c.advance.new.self step.Advance _ tt
+pub returns-then-not-has_room : goal.returns-then-not-has_room
+returns-then-not-has_room c = record {
+  runs = λ guest s. Still s c.args.board.now;
+  keeps = λ guest. (refl, refl);
+  devices = refl;
+  made = λ no guest s. absurd (let yes = no in cc);
+  none = λ no report. (refl, λ write. (let a = c.has_room.ensures in let b = c.if-not-has_room.true in
+      cc));
+}
+
+pub returns-in-Ok-clause-runs : goal.returns-in-Ok-clause-runs
+returns-in-Ok-clause-runs c guest s =
+    runs_step guest s c.args.board.now c.advance.new.self step.Advance _ tt
     c.advance.ensures.steps
+
+pub returns-in-Ok-clause-made : goal.returns-in-Ok-clause-made
+returns-in-Ok-clause-made c made guest s =
+    let b = c.args.board.now in
+    let makes = subst (λ r. Makes step.Advance (answer_by fault.Store r) b c.advance.new.self)
+    (c.in-Ok.is ∙ ap (λ did. Ok did) made) c.advance.ensures.steps in
+    does_step guest s b c.advance.new.self step.Advance _ tt makes
+    (λ same. absurd (let no = same in cc))
+
+pub returns-in-Err-clause-runs : goal.returns-in-Err-clause-runs
+returns-in-Err-clause-runs c guest s =
+    runs_step guest s c.args.board.now c.advance.new.self step.Advance _ tt
+    c.advance.ensures.steps
+
+pub returns-in-Err-clause-made : goal.returns-in-Err-clause-made
+returns-in-Err-clause-made c made guest s =
+    let b = c.args.board.now in
+    let makes = subst (λ r. Makes step.Advance (answer_by fault.Store r) b c.advance.new.self)
+    c.in-Err.is c.advance.ensures.steps in
+    does_step guest s b c.advance.new.self step.Advance _ tt makes
+    (λ same. absurd (let no = same in cc))
+
+pub returns-in-Ok-clause-none : goal.returns-in-Ok-clause-none
+returns-in-Ok-clause-none c unmade report =
+    let b = c.args.board.now in
+    let makes = subst (λ r. Makes step.Advance (answer_by fault.Store r) b c.advance.new.self)
+    (c.in-Ok.is ∙ ap (λ did. Ok did) unmade) c.advance.ensures.steps in
+    absurd (write_made _ b c.advance.new.self report
+    (sym c.has_write.ensures ∙ c.if-not-has_write.false) makes refl)
+
+pub returns-in-Ok-clause-keeps : goal.returns-in-Ok-clause-keeps
+returns-in-Ok-clause-keeps c guest =
+    advanced_waits guest _ c.args.board.now c.advance.new.self c.advance.ensures.steps
+
+pub returns-in-Err-clause-keeps : goal.returns-in-Err-clause-keeps
+returns-in-Err-clause-keeps c guest =
+    advanced_waits guest _ c.args.board.now c.advance.new.self c.advance.ensures.steps

@@ -1,9 +1,9 @@
 use Rattle.std.proofs.Common.{[], rules, refl, sym, subst, true}
-use Rattle.machine.proofs.Common.{Runs, board_of, standing}
-use Rattle.machine.proofs.Ends.{none_collected}
+use Rattle.std.specs.Prelude.{IsSome}
+use Rattle.machine.proofs.Common.{slice_get, Runs, board_of, in_place, standing}
+use Rattle.machine.proofs.Ends.{collected_same, none_collected}
 use Rattle.board.specs.declared.step.Step.TheVariants as step
-use Rattle.machine.proofs.Jobs.{collected_jobs}
-use Rattle.machine.proofs.Runs.{runs_step, runs_twice}
+use Rattle.machine.proofs.Runs.{runs_step, runs_twice, then_does}
 use Rattle.machine.proofs.leaving.leave_one.Goals as goal
 
 pub returns-then-is_none-clause-runs : goal.returns-then-is_none-clause-runs
@@ -20,7 +20,8 @@ returns-then-is_none-clause-nothing c is = (
       (board_of c.collect.new.self) _ refl c.collect.ensures.steps.steps.does (search rules) in
       record { place = gone.place; due = gone.due }),
   c.collect.ensures.devices,
-  collected_jobs _ c.args.board.now c.collect.new.self c.args.guest c.collect.ensures.steps,
+  collected_same c.args.guest (board_of c.args.board.now) _ (board_of c.collect.new.self) _ refl
+      c.collect.ensures.steps.steps.does (search rules),
 )
 
 pub returns-then-not-prepare-clause-runs : goal.returns-then-not-prepare-clause-runs
@@ -46,3 +47,22 @@ returns-clause-runs c =
     c.prepare.new.board
     (runs_step g s c.args.board.now c.collect.new.self (step.Collect g) _ refl
     c.collect.ensures.steps) c.prepare.ensures.runs)) c.publish.ensures.runs
+
+pub publish-requires-clause-lies : goal.publish-requires-clause-lies
+publish-requires-clause-lies c =
+    subst (λ r. IsSome (in_place (slice_get r.dones c.args.guest))) (sym c.prepare.ensures.rest)
+    (subst (λ r. IsSome (in_place (slice_get r.dones c.args.guest))) c.rest.ensures
+    (subst (λ o. IsSome o) c.done.ensures (search rules)))
+
+pub returns-clause-did : goal.returns-clause-did
+returns-clause-did c is =
+    let g = c.args.guest in
+    let s = standing [] c.args.turn.now.going in
+    let begun = standing [] true in
+    then_does g s begun _ c.args.board.now c.prepare.new.board c.publish.new.board
+    (subst (λ v. Runs g s c.args.board.now (standing [] v) c.prepare.new.board)
+    (c.prepare.ensures.begun (let there = c.if-not-prepare.false in cc))
+    (runs_twice g s s (standing [] c.prepare.new.turn.going) c.args.board.now c.collect.new.self
+    c.prepare.new.board
+    (runs_step g s c.args.board.now c.collect.new.self (step.Collect g) _ refl
+    c.collect.ensures.steps) c.prepare.ensures.runs)) (c.publish.ensures.did is)

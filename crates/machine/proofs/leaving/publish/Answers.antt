@@ -1,8 +1,8 @@
-use Rattle.std.proofs.Common.{refl, ap, sym, subst, ◌∙◌, Ok, Some, true, []}
-use Rattle.machine.proofs.Common.{OutboxMakes, Runs, outbox_state, stand_of, standing}
+use Rattle.std.proofs.Common.{refl, ap, subst, ◌∙◌, Ok, Some, true, []}
+use Rattle.machine.proofs.Common.{OutboxMakes, outbox_state, stand_of, standing}
 use Rattle.board.specs.Asking.{PublishesOf}
-use Rattle.machine.proofs.Replies.{hands_by, noted_reply}
-use Rattle.machine.proofs.Popping.{gives_up, still_by}
+use Rattle.machine.proofs.Replies.{hands_by, hands_does, noted_reply}
+use Rattle.machine.proofs.Popping.{still_by}
 use Rattle.machine.proofs.leaving.publish.Goals as goal
 
 pub returns-in-Err-clause-runs : goal.returns-in-Err-clause-runs
@@ -32,13 +32,23 @@ returns-in-Ok-Some-Dropped-clause-runs c =
     hands_by g _ _ _ b c.publish.new.self hands (ap (λ t. t.going) c.stop.ensures)
     (ap (λ t. t.parts) c.stop.ensures)
 
-pub returns-in-Ok-None-clause-runs : goal.returns-in-Ok-None-clause-runs
-returns-in-Ok-None-clause-runs c =
-    let o = c.in-Ok-None in
-    let none = subst (λ p. PublishesOf outbox_state OutboxMakes c.args.guest (Ok p) c.args.board.now
-    c.publish.new.self) o.field-0-is o.ensures in
+pub returns-in-Ok-Some-Wrote-clause-did : goal.returns-in-Ok-Some-Wrote-clause-did
+returns-in-Ok-Some-Wrote-clause-did c is =
     let g = c.args.guest in
     let b = c.args.board.now in
-    let t = stand_of c.stop-in-Ok-None.new.self in
-    subst (λ x. Runs g (standing [] true) b t x) (sym none.1)
-    (gives_up g [] true t b (ap stand_of c.stop-in-Ok-None.ensures))
+    let o = c.in-Ok-Some-Wrote in
+    let hands = subst (λ p. PublishesOf outbox_state OutboxMakes g (Ok p) b c.publish.new.self)
+    (o.field-0-is ∙ ap Some o.field-0-0-is) o.ensures in
+    hands_does g _ _ _ b c.publish.new.self hands refl
+    (ap (λ t. t.parts) c.turn.view_is
+    ∙ noted_reply g _ b hands.device hands.done c.requires.noted hands.lay hands.its)
+
+pub returns-in-Ok-Some-Dropped-clause-did : goal.returns-in-Ok-Some-Dropped-clause-did
+returns-in-Ok-Some-Dropped-clause-did c is =
+    let g = c.args.guest in
+    let b = c.args.board.now in
+    let o = c.in-Ok-Some-Dropped in
+    let hands = subst (λ p. PublishesOf outbox_state OutboxMakes g (Ok p) b c.publish.new.self)
+    (o.field-0-is ∙ ap Some o.field-0-0-is) o.ensures in
+    hands_does g _ _ _ b c.publish.new.self hands (ap (λ t. t.going) c.stop.ensures)
+    (ap (λ t. t.parts) c.stop.ensures)

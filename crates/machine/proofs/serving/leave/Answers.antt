@@ -1,10 +1,14 @@
 use Rattle.std.proofs.Common.{refl, ap, sym, subst, ◌∙◌}
 use Rattle.machine.proofs.Common.{Runs, stand_of, standing}
 use Rattle.machine.specs.Ending.{Lacks}
-use Rattle.machine.proofs.Goings.{went_by}
+use Rattle.machine.proofs.Goings.{went_after, went_by}
 use Rattle.machine.proofs.Popping.{gives_up}
 use Rattle.machine.proofs.Runs.{runs_twice}
 use Rattle.machine.proofs.serving.leave.Goals as goal
+
+pub call-requires-clause-parts : goal.call-requires-clause-parts
+call-requires-clause-parts c =
+    c.leave_one.ensures.idle (λ did. absurd (let a = c.in-Nothing.is in let b = did in cc))
 
 pub returns-in-NoMemory : goal.returns-in-NoMemory
 returns-in-NoMemory c =
@@ -20,6 +24,19 @@ returns-in-NoMemory c =
           (subst (λ ps. Runs g (standing ps s.going) a t b) (sym c.requires.parts)
           c.leave_one.ensures.runs)
           (gives_up g t.parts t.going u b (ap stand_of c.take_next.ensures)))
-          (Lacks refl) c.leave_one.ensures.count
+          (Lacks refl) tt c.leave_one.ensures.count
           (ap (λ v. v.asked) c.take_next.ensures ∙ c.leave_one.ensures.keeps.1);
+    }
+
+pub returns-in-Nothing : goal.returns-in-Nothing
+returns-in-Nothing c =
+    let g = c.args.guest in
+    let t = c.args.turn.now in
+    let l = c.leave_one.new in
+    record {
+      went = went_after g c.args.most t l.turn c.call.new.turn c.args.board.now l.board
+          c.call.new.board _
+          (subst (λ ps. Runs g (standing ps t.going) c.args.board.now (stand_of l.turn) l.board)
+          (sym c.requires.parts) c.leave_one.ensures.runs)
+          c.leave_one.ensures.count c.leave_one.ensures.keeps.1 c.call.ensures.went;
     }

@@ -1,8 +1,8 @@
 use Rattle.std.proofs.Common.{refl, ap, sym, subst, ◌∙◌, ◌∷◌, Some}
-use Rattle.machine.proofs.Common.{Runs, stand_of, standing}
-use Rattle.machine.specs.Ending.{Went, left_by}
+use Rattle.machine.proofs.Common.{stand_of, standing}
+use Rattle.machine.specs.Ending.{Went}
 use Rattle.machine.specs.declared.serving.Next.TheVariants as next
-use Rattle.machine.proofs.Goings.{notified_needs, went_by}
+use Rattle.machine.proofs.Goings.{went_by}
 use Rattle.machine.proofs.Runs.{still_same}
 use Rattle.machine.proofs.serving.move_on.Goals as goal
 
@@ -18,7 +18,7 @@ returns-in-Some c =
     ∙ ap (λ qs. standing qs s.going) (sym c.in-Some.ensures.some)) in
     record {
       went = went_by g c.args.most c.args.turn.now c.next_part.new.self b b (Some (next.Write part))
-          first tt refl
+          first tt tt refl
           (ap (λ t. t.asked) c.next_part.ensures.rest);
     }
 
@@ -44,21 +44,13 @@ returns-in-Leaving c = record {
       c.leave.ensures.went;
 }
 
+pub call-requires-clause-parts : goal.call-requires-clause-parts
+call-requires-clause-parts c =
+    let none = c.next_part.ensures.none c.in_default.is in ap (λ t. t.parts) none.1 ∙ none.0
+
 pub returns-in-Notifying : goal.returns-in-Notifying
-returns-in-Notifying c =
-    let g = c.args.guest in
-    let n = c.notify.ensures in
-    let t = c.next_part.new.self in
-    let after = c.notify.new.turn in
-    let gone = c.next_part.ensures.none c.in_default.is in
-    let none = ap (λ v. v.parts) gone.1 ∙ gone.0 in
-    record {
-      went = subst (λ t0. Went g c.args.most t0 c.notify.new.turn c.args.board.now
-          c.notify.new.board c.notify.result) (c.next_part.ensures.none c.in_default.is).1
-          (went_by g c.args.most t c.notify.new.turn c.args.board.now c.notify.new.board
-          c.notify.result
-          (subst (λ rs. Runs g (standing rs t.going) c.args.board.now
-          (left_by c.notify.result after) c.notify.new.board) (sym none) n.runs)
-          (notified_needs g c.args.most after.parts c.notify.new.board c.notify.result n.asks
-          n.others) n.count n.asked);
-    }
+returns-in-Notifying c = record {
+  went = subst (λ t. Went c.args.guest c.args.most t c.call.new.turn c.args.board.now
+      c.call.new.board c.call.result) (c.next_part.ensures.none c.in_default.is).1
+      c.call.ensures.went;
+}

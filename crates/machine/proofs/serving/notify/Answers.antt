@@ -1,8 +1,6 @@
 use Rattle.std.proofs.Common.{[], inl, refl, ap, sym, subst, ◌∙◌, IfSome, Ok, true, false}
-use Rattle.board.specs.Asking.{ForPop}
 use Rattle.machine.proofs.Common.{Calls, Runs, owing, stand_of, standing}
-use Rattle.guest_memory.specs.Memory.{IsAsk}
-use Rattle.mmio_transport.specs.Asking.{Notifies, known}
+use Rattle.mmio_transport.specs.Asking.{Notifies}
 use Rattle.machine.specs.Ending.{AsksIn, SawAll}
 use Rattle.machine.specs.Serving.{Sees}
 use Rattle.machine.proofs.Goings.{not_notified, notify_asks, saw_all}
@@ -24,18 +22,18 @@ returns-in-Err-clause-runs c =
     ∙ ap (λ ps. standing ps true) c.requires.parts)
     (subst (λ x. Runs g s c.args.board.now (standing [] true) x) (sym same) c.begin.ensures.runs)
 
-pub returns-in-Err-clause-asks : goal.returns-in-Err-clause-asks
-returns-in-Err-clause-asks c ask is =
+pub returns-in-Err-clause-needs : goal.returns-in-Err-clause-needs
+returns-in-Err-clause-needs c =
     let g = c.args.guest in
     let b = c.begin.new.board in
     let d = c.device.result.now in
     let asks = notify_asks d c.notify.new.self c.in-Err.ask c.in-Err.ensures.notifies in
     let same = moved_none g b d c.notify.new.self c.device.ensures.device asks.same in
-    subst (λ x. AsksIn g ask x) (sym same) (record {
+    subst (λ x. AsksIn g c.in-Err.ask x) (sym same) (record {
       device = d;
       its = c.device.ensures.device;
-      asks = subst (λ k. IsAsk (known d) k) (let e = is in cc) asks.missing;
-      needed = inl (subst (λ k. ForPop d k) (let e = is in cc) asks.needed);
+      asks = asks.missing;
+      needed = inl asks.needed;
     })
 
 pub returns-in-Ok-true-clause-runs : goal.returns-in-Ok-true-clause-runs

@@ -1,42 +1,50 @@
-use Rattle.std.proofs.Common.{refl, ap, sym, subst, ◌∙◌, [], Some, true, false}
+use Rattle.std.proofs.Common.{[], inr, refl, ap, sym, subst, ◌∙◌, true, false}
+use Rattle.flusher.specs.Store.{next_call}
 use Rattle.machine.proofs.Common.{Runs, Still, stand_of, standing}
+use Rattle.board.specs.State.{waiting}
+use Rattle.machine.specs.Ending.{IsHandedOn, is_write}
+use Rattle.machine.specs.Serving.{HasNoReply}
 use Rattle.machine.proofs.Popping.{gives_up}
 use Rattle.machine.proofs.Runs.{runs_twice}
-use Rattle.machine.proofs.Goings.{rest_needs, rests_by, went_by}
+use Rattle.machine.proofs.Goings.{ended_same, rest_needs, went_by}
 use Rattle.machine.proofs.serving.rest.Goals as goal
 
-pub returns-in-None : goal.returns-in-None
-returns-in-None c =
+pub returns-then-has_write : goal.returns-then-has_write
+returns-then-has_write c =
+    let t = c.args.turn.now in
+    let b = c.args.board.now in
+    let write = sym c.has_write.ensures ∙ c.if-has_write.true in
     record {
-      went = went_by c.args.guest c.args.most c.args.turn.now c.args.turn.now c.args.board.now
-          c.args.board.now _ (Still (stand_of c.args.turn.now) c.args.board.now) tt refl refl;
+      went = λ most ended. went_by c.args.guest most t t b b _ (Still (stand_of t) b) tt
+          (inr (record { write = write; full = c.requires.left.0.room write })) refl refl;
     }
 
-pub returns-in-Some : goal.returns-in-Some
-returns-in-Some c =
+pub returns : goal.returns
+returns c =
     let g = c.args.guest in
+    let t = c.args.turn.now in
+    let t' = c.take_next.new.self in
     let b = c.args.board.now in
     let b' = c.begin.new.board in
-    let ps = c.args.turn.now.parts in
-    let w = c.why_rests.ensures in
-    let same = ap (λ t. t.parts) c.take_next.ensures ∙ ap (λ t. t.parts) c.begin.ensures.turn in
+    let rest = c.begin.ensures.rest in
+    let none = ap (λ v. v.parts) c.take_next.ensures ∙ ap (λ v. v.parts) c.begin.ensures.turn
+    ∙ c.requires.parts in
+    let writes = sym c.has_write.ensures ∙ c.if-has_write.false in
     record {
-      went = went_by g c.args.most c.args.turn.now c.take_next.new.self b b' _
-          (runs_twice g (stand_of c.args.turn.now) (standing [] true) (stand_of c.take_next.new.self) b b' b'
-          (subst (λ qs. Runs g (standing qs c.args.turn.now.going) b (standing [] true) b')
+      went = λ most ended. went_by g most t t' b b' _
+          (runs_twice g (stand_of t) (standing [] true) (stand_of t') b b' b'
+          (subst (λ qs. Runs g (standing qs t.going) b (standing [] true) b')
           (sym c.requires.parts) c.begin.ensures.runs)
-          (gives_up g [] true (stand_of c.take_next.new.self) b'
-          (ap stand_of c.take_next.ensures ∙ ap (λ t. standing t.parts false) c.begin.ensures.turn
-          ∙ ap (λ ps. standing ps false)
-          c.requires.parts)))
-          (rest_needs g c.args.most c.take_next.new.self.parts b' c.in-Some.fault
-          (λ none. (let is = c.in-Some.is ∙ ap Some none in (
-            rests_by g c.args.most b b' c.args.taken c.begin.ensures.rest c.begin.ensures.devices
-                (w.rests is) (w.writes is) c.requires.none c.requires.limit c.requires.left.0
-                c.requires.left.1 (c.begin.ensures.seen c.requires.left.2),
-            same ∙ c.requires.parts,
-          )))
-          (λ f some. c.requires.fault f (w.fault f (c.in-Some.is ∙ ap Some some))))
-          c.begin.ensures.count
-          (ap (λ t. t.asked) c.take_next.ensures ∙ ap (λ t. t.asked) c.begin.ensures.turn);
+          (gives_up g [] true (stand_of t') b'
+          (ap stand_of c.take_next.ensures ∙ ap (λ v. standing v.parts false) c.begin.ensures.turn
+          ∙ ap (λ ps. standing ps false) c.requires.parts)))
+          (rest_needs g most t'.parts b' c.args.fault
+          (ended_same g most b b' c.args.fault c.begin.ensures.devices
+          (ap (λ r. r.jobs) rest, ap (λ r. waiting g r) rest) ended)
+          (subst (λ r. IsHandedOn g r) (sym rest) c.requires.left.0)
+          (subst (λ r. HasNoReply g r) (sym rest) c.requires.left.1)
+          (c.begin.ensures.seen c.requires.left.2)
+          (ap (λ r. is_write (next_call r.store.broken r.store.guests)) rest ∙ writes) none)
+          tt c.begin.ensures.count
+          (ap (λ v. v.asked) c.take_next.ensures ∙ ap (λ v. v.asked) c.begin.ensures.turn);
     }

@@ -1,130 +1,170 @@
-use Rattle.std.proofs.Common.{◌≡◌, ℕ, [], refl, ap, sym, subst, ◌∙◌, length}
+use Rattle.std.proofs.Common.{◌≡◌, ℕ, [], Some, refl, ap, sym, subst, ◌∙◌, length, map}
+use Rattle.board.specs.State.{waiting}
 use Rattle.machine.proofs.Common.{Boards, Runs, Stand, stand_of, standing}
-use Rattle.machine.specs.Ending.{Lacks, left_by}
-use Rattle.machine.proofs.Goings.{some_needs, went_after, went_by}
+use Rattle.machine.specs.Ending.{IsHandedOn, Lacks, NotifiesNext, left_by}
+use Rattle.machine.specs.Serving.{DoesSome, HasNoReply}
+use Rattle.machine.proofs.Goings.{ended_same, notified_busy, notified_needs, went_after, went_by}
+use Rattle.machine.proofs.Handed.{handed_same}
 use Rattle.machine.proofs.Popping.{gives_up}
-use Rattle.machine.proofs.Runs.{runs_twice}
+use Rattle.machine.proofs.Runs.{runs_twice, then_does}
+use Rattle.machine.proofs.Waiting.{same_waits}
 use Rattle.machine.specs.Turn.{TurnState}
 use Rattle.machine.proofs.serving.settle_down.Goals as goal
 
--- what was accepted is handed on
-module _ (guest : ℕ) (a b c d : Boards) (t : TurnState) (u : Stand) where
-  handed : t.parts ≡ [] → Runs guest (standing [] t.going) a (standing [] t.going) b
-      → Runs guest (standing [] t.going) b (standing [] t.going) c
-      → Runs guest (standing [] t.going) c u d → Runs guest (stand_of t) a u d
-  handed none runs more rest =
-      let s = standing [] t.going in
-      subst (λ rs. Runs guest (standing rs t.going) a u d) (sym none)
-      (runs_twice guest s s u a b d runs (runs_twice guest s s u b c d more rest))
+-- what was accepted is handed on first
+module _ (guest : ℕ) (a b d : Boards) (t : TurnState) (u : Stand) (none : t.parts ≡ [])
+    (first : (s : Stand) → Runs guest s a s b) where
+  handed : Runs guest (standing [] t.going) b u d → Runs guest (stand_of t) a u d
+  handed rest = runs_twice guest (stand_of t) (stand_of t) u a b d (first (stand_of t))
+      (subst (λ ps. Runs guest (standing ps t.going) b u d) (sym none) rest)
+
+  handed_does : DoesSome guest (standing [] t.going) b u d → DoesSome guest (stand_of t) a u d
+  handed_does rest = then_does guest (stand_of t) (stand_of t) u a b d (first (stand_of t))
+      (subst (λ ps. DoesSome guest (standing ps t.going) b u d) (sym none) rest)
+
+pub returns-then-hand_all : goal.returns-then-hand_all
+returns-then-hand_all c =
+    let t = c.args.turn.now in
+    record {
+      went = λ most ended. went_by c.args.guest most t t c.args.board.now c.hand_all.new.board _
+          (c.hand_all.ensures.runs (stand_of t)) tt
+          (c.hand_all.ensures.did c.if-hand_all.true (stand_of t))
+          (ap length c.hand_all.ensures.devices) refl;
+    }
 
 pub returns-in-Asks : goal.returns-in-Asks
 returns-in-Asks c =
     let g = c.args.guest in
     let a = c.args.board.now in
-    let d = c.leave_one.new.board in
-    let runs = handed g a c.hand_in.new.board c.write_out.new.board d c.args.turn.now _
-    c.requires.parts (c.hand_in.ensures.runs (standing [] c.args.turn.now.going))
-    (c.write_out.ensures.runs g (standing [] c.args.turn.now.going))
-    c.leave_one.ensures.runs in
-    let count = c.leave_one.ensures.count ∙ ap length c.write_out.ensures.devices
-    ∙ ap length c.hand_in.ensures.devices in
+    let h = c.hand_all in
+    let l = c.leave_one in
+    let t = c.args.turn.now in
+    let t' = c.go_to.new.self in
     record {
-      went = went_by g c.args.most c.args.turn.now c.go_to.new.self a d _
-          (subst (λ rs. Runs g (stand_of c.args.turn.now) a rs d) (sym (ap stand_of c.go_to.ensures))
-          runs) (c.leave_one.ensures.asks c.in-Asks.ask c.in-Asks.is) count (ap (λ t. t.asked) c.go_to.ensures ∙ c.leave_one.ensures.keeps.1);
+      went = λ most ended. went_by g most t t' a l.new.board _
+          (subst (λ rs. Runs g (stand_of t) a rs l.new.board) (sym (ap stand_of c.go_to.ensures))
+          (handed g a h.new.board l.new.board t _ c.requires.parts h.ensures.runs l.ensures.runs))
+          (l.ensures.asks c.in-Asks.ask c.in-Asks.is) tt
+          (l.ensures.count ∙ ap length h.ensures.devices)
+          (ap (λ v. v.asked) c.go_to.ensures ∙ l.ensures.keeps.1);
     }
 
 pub returns-in-Did : goal.returns-in-Did
 returns-in-Did c =
     let g = c.args.guest in
     let a = c.args.board.now in
-    let d = c.leave_one.new.board in
-    let runs = handed g a c.hand_in.new.board c.write_out.new.board d c.args.turn.now _
-    c.requires.parts (c.hand_in.ensures.runs (standing [] c.args.turn.now.going))
-    (c.write_out.ensures.runs g (standing [] c.args.turn.now.going))
-    c.leave_one.ensures.runs in
-    let count = c.leave_one.ensures.count ∙ ap length c.write_out.ensures.devices
-    ∙ ap length c.hand_in.ensures.devices in
+    let h = c.hand_all in
+    let l = c.leave_one in
+    let t = c.args.turn.now in
+    let t' = c.go_to-in-Did.new.self in
+    let same = sym (ap stand_of c.go_to-in-Did.ensures) in
     record {
-      went = went_by g c.args.most c.args.turn.now c.go_to-in-Did.new.self a d _
-          (subst (λ rs. Runs g (stand_of c.args.turn.now) a rs d)
-          (sym (ap stand_of c.go_to-in-Did.ensures)) runs) tt count (ap (λ t. t.asked) c.go_to-in-Did.ensures ∙ c.leave_one.ensures.keeps.1);
+      went = λ most ended. went_by g most t t' a l.new.board _
+          (subst (λ rs. Runs g (stand_of t) a rs l.new.board) same
+          (handed g a h.new.board l.new.board t _ c.requires.parts h.ensures.runs l.ensures.runs))
+          tt
+          (subst (λ rs. DoesSome g (stand_of t) a rs l.new.board) same
+          (handed_does g a h.new.board l.new.board t _ c.requires.parts h.ensures.runs
+          (l.ensures.did c.in-Did.is)))
+          (l.ensures.count ∙ ap length h.ensures.devices)
+          (ap (λ v. v.asked) c.go_to-in-Did.ensures ∙ l.ensures.keeps.1);
     }
 
 pub returns-in-NoMemory : goal.returns-in-NoMemory
 returns-in-NoMemory c =
     let g = c.args.guest in
     let a = c.args.board.now in
-    let d = c.leave_one.new.board in
-    let runs = handed g a c.hand_in.new.board c.write_out.new.board d c.args.turn.now _
-    c.requires.parts (c.hand_in.ensures.runs (standing [] c.args.turn.now.going))
-    (c.write_out.ensures.runs g (standing [] c.args.turn.now.going))
-    c.leave_one.ensures.runs in
-    let count = c.leave_one.ensures.count ∙ ap length c.write_out.ensures.devices
-    ∙ ap length c.hand_in.ensures.devices in
+    let h = c.hand_all in
+    let l = c.leave_one in
+    let t = c.args.turn.now in
+    let t' = c.take_next.new.self in
+    let d = l.new.board in
     record {
-      went = went_by g c.args.most c.args.turn.now c.take_next.new.self a d _
-          (runs_twice g (stand_of c.args.turn.now) (stand_of c.leave_one.new.turn)
-          (stand_of c.take_next.new.self) a d d runs
-          (gives_up g c.leave_one.new.turn.parts c.leave_one.new.turn.going
-          (stand_of c.take_next.new.self) d (ap stand_of c.take_next.ensures))) (Lacks refl) count
-          (ap (λ t. t.asked) c.take_next.ensures ∙ c.leave_one.ensures.keeps.1);
+      went = λ most ended. went_by g most t t' a d _
+          (runs_twice g (stand_of t) (stand_of l.new.turn) (stand_of t') a d d
+          (handed g a h.new.board d t _ c.requires.parts h.ensures.runs l.ensures.runs)
+          (gives_up g l.new.turn.parts l.new.turn.going (stand_of t') d
+          (ap stand_of c.take_next.ensures)))
+          (Lacks refl) tt (l.ensures.count ∙ ap length h.ensures.devices)
+          (ap (λ v. v.asked) c.take_next.ensures ∙ l.ensures.keeps.1);
     }
+
+-- the driver was notified, or isn't to be
+module _ (guest : ℕ) (a b d e : Boards) (t l : TurnState) (u : Stand) (none : t.parts ≡ [])
+    (first : (s : Stand) → Runs guest s a s b)
+    (second : Runs guest (standing [] t.going) b (stand_of l) d) (empty : l.parts ≡ []) where
+  notified : Runs guest (standing [] l.going) d u e → Runs guest (stand_of t) a u e
+  notified third = runs_twice guest (stand_of t) (stand_of l) u a d e
+      (handed guest a b d t (stand_of l) none first second)
+      (subst (λ ps. Runs guest (standing ps l.going) d u e) (sym empty) third)
+
+pub notify-requires-clause-parts : goal.notify-requires-clause-parts
+notify-requires-clause-parts c =
+    c.leave_one.ensures.idle (λ did. absurd (let a = c.in-Nothing.is in let b = did in cc))
 
 pub returns-in-Some : goal.returns-in-Some
 returns-in-Some c =
     let g = c.args.guest in
     let a = c.args.board.now in
-    let d = c.leave_one.new.board in
-    let runs = handed g a c.hand_in.new.board c.write_out.new.board d c.args.turn.now _
-    c.requires.parts (c.hand_in.ensures.runs (standing [] c.args.turn.now.going))
-    (c.write_out.ensures.runs g (standing [] c.args.turn.now.going))
-    c.leave_one.ensures.runs in
-    let count = c.leave_one.ensures.count ∙ ap length c.write_out.ensures.devices
-    ∙ ap length c.hand_in.ensures.devices in
-    let e = c.notify.new.board in
-    let left = c.leave_one.new.turn in
-    let n = c.notify.ensures in
-    let none = c.leave_one.ensures.idle
-    (λ did. absurd (let a_ = c.in-Nothing.is in let b_ = did in cc)) in
-    let notified = subst (λ ps. Runs g (standing ps left.going) d
-    (left_by c.notify.result c.notify.new.turn) e) (sym none) n.runs in
+    let h = c.hand_all in
+    let l = c.leave_one in
+    let n = c.notify in
+    let t = c.args.turn.now in
+    let t' = n.new.turn in
+    let e = n.new.board in
+    let none = l.ensures.idle (λ did. absurd (let x = c.in-Nothing.is in let y = did in cc)) in
+    let needs = subst (λ o. NotifiesNext g e o) c.in-Some.is n.ensures.needs in
     record {
-      went = went_by g c.args.most c.args.turn.now c.notify.new.turn a e _
-          (subst (λ o. Runs g (stand_of c.args.turn.now) a (left_by o c.notify.new.turn) e)
-          c.in-Some.is
-          (runs_twice g (stand_of c.args.turn.now) (stand_of left)
-          (left_by c.notify.result c.notify.new.turn) a d e runs notified))
-          (some_needs g c.args.most c.notify.new.turn.parts e c.in-Some.next
-          (λ ask is. n.asks ask (c.in-Some.is ∙ is))
-          (λ f is. n.others f (c.in-Some.is ∙ is)))
-          (n.count ∙ count) (n.asked ∙ c.leave_one.ensures.keeps.1);
+      went = λ most ended. went_by g most t t' a e _
+          (subst (λ o. Runs g (stand_of t) a (left_by o t') e) c.in-Some.is
+          (notified g a h.new.board l.new.board e t l.new.turn _ c.requires.parts h.ensures.runs
+          l.ensures.runs none n.ensures.runs))
+          (notified_needs g most t'.parts e (Some c.in-Some.next) needs)
+          (notified_busy g most (stand_of t) a e t' c.in-Some.next needs)
+          (n.ensures.count ∙ l.ensures.count ∙ ap length h.ensures.devices)
+          (n.ensures.asked ∙ l.ensures.keeps.1);
     }
+
+pub rest-requires-clause-left : goal.rest-requires-clause-left
+rest-requires-clause-left c =
+    let g = c.args.guest in
+    let l = c.leave_one.ensures.nothing c.in-Nothing.is in
+    let same = c.notify.ensures.rest in (
+      subst (λ r. IsHandedOn g r) (sym same)
+          (handed_same g c.hand_all.new.board c.leave_one.new.board l.2
+          (c.hand_all.ensures.done c.if-hand_all.false)),
+      subst (λ r. HasNoReply g r) (sym same) l.0,
+      (c.notify.ensures.none c.in-None.is).1,
+    )
 
 pub returns-in-None : goal.returns-in-None
 returns-in-None c =
     let g = c.args.guest in
     let a = c.args.board.now in
-    let d = c.leave_one.new.board in
-    let runs = handed g a c.hand_in.new.board c.write_out.new.board d c.args.turn.now _
-    c.requires.parts (c.hand_in.ensures.runs (standing [] c.args.turn.now.going))
-    (c.write_out.ensures.runs g (standing [] c.args.turn.now.going))
-    c.leave_one.ensures.runs in
-    let count = c.leave_one.ensures.count ∙ ap length c.write_out.ensures.devices
-    ∙ ap length c.hand_in.ensures.devices in
-    let e = c.notify.new.board in
-    let left = c.leave_one.new.turn in
-    let n = c.notify.ensures in
-    let none = c.leave_one.ensures.idle
-    (λ did. absurd (let a_ = c.in-Nothing.is in let b_ = did in cc)) in
-    let notified = subst (λ ps. Runs g (standing ps left.going) d
-    (left_by c.notify.result c.notify.new.turn) e) (sym none) n.runs in
+    let h = c.hand_all in
+    let l = c.leave_one in
+    let n = c.notify in
+    let t = c.args.turn.now in
+    let t' = n.new.turn in
+    let b = h.new.board in
+    let d = l.new.board in
+    let e = n.new.board in
+    let f = c.args.fault in
+    let none = l.ensures.idle (λ did. absurd (let x = c.in-Nothing.is in let y = did in cc)) in
+    let nothing = l.ensures.nothing c.in-Nothing.is in
+    let rest = n.ensures.rest in
     record {
-      went = went_after g c.args.most c.args.turn.now c.notify.new.turn c.end.new.turn a e
-          c.end.new.board _
-          (subst (λ o. Runs g (stand_of c.args.turn.now) a (left_by o c.notify.new.turn) e)
-          c.in-None.is
-          (runs_twice g (stand_of c.args.turn.now) (stand_of left)
-          (left_by c.notify.result c.notify.new.turn) a d e runs notified))
-          (n.count ∙ count) (n.asked ∙ c.leave_one.ensures.keeps.1) c.end.ensures.went;
+      went = λ most ended. went_after g most t t' c.rest.new.turn a e c.rest.new.board _
+          (subst (λ o. Runs g (stand_of t) a (left_by o t') e) c.in-None.is
+          (notified g a b d e t l.new.turn _ c.requires.parts h.ensures.runs l.ensures.runs none
+          n.ensures.runs))
+          (n.ensures.count ∙ l.ensures.count ∙ ap length h.ensures.devices)
+          (n.ensures.asked ∙ l.ensures.keeps.1)
+          (c.rest.ensures.went most
+          (ended_same g most d e f (n.ensures.none c.in-None.is).0
+          (ap (λ r. r.jobs) rest, ap (λ r. waiting g r) rest)
+          (ended_same g most b d f (ap (λ ds. map (λ x. x.device) ds) nothing.1)
+          (same_waits g b d nothing.2)
+          (ended_same g most a b f (ap (λ ds. map (λ x. x.device) ds) h.ensures.devices)
+          h.ensures.keeps ended))));
     }

@@ -1,14 +1,109 @@
-use Rattle.std.proofs.Common.{sym, subst}
-use Rattle.machine.proofs.Common.{Runs, stand_of, standing}
-use Rattle.machine.proofs.Goings.{went_after}
+use Rattle.std.proofs.Common.{◌≡◌, [], ◌∷◌, inl, inr, ap, sym, subst, ◌∙◌}
+use Rattle.machine.proofs.Common.{Boards, Runs, Stand, stand_of, standing}
+use Rattle.machine.specs.Ending.{IsTaken}
+use Rattle.machine.specs.Serving.{DoesSome}
+use Rattle.machine.specs.Turn.{TurnState}
+use Rattle.machine.proofs.Goings.{went_after, went_by}
+use Rattle.machine.proofs.Runs.{still_on}
 use Rattle.machine.proofs.serving.take.Goals as goal
 
-pub returns-in_default : goal.returns-in_default
-returns-in_default c = record {
-  went = went_after c.args.guest c.args.most c.args.turn.now c.take_one-taken.new.turn
-      c.settle_down.new.turn c.args.board.now c.take_one-taken.new.board c.settle_down.new.board
-      c.settle_down.result
-      (subst (λ rs. Runs c.args.guest (standing rs c.args.turn.now.going) c.args.board.now
-      (stand_of c.take_one-taken.new.turn) c.take_one-taken.new.board) (sym c.requires.parts) c.take_one-taken.ensures.runs)
-      c.take_one-taken.ensures.count c.take_one-taken.ensures.keeps.1 c.settle_down.ensures.went;
-}
+-- nothing is left to be copied out before
+from : (guest : _) (t : TurnState) (a b : Boards) (u : Stand) → t.parts ≡ []
+    → Runs guest (standing [] t.going) a u b → Runs guest (stand_of t) a u b
+from guest t a b u none runs =
+    subst (λ ps. Runs guest (standing ps t.going) a u b) (sym none) runs
+
+pub returns-in-Asks : goal.returns-in-Asks
+returns-in-Asks c =
+    let g = c.args.guest in
+    let o = c.take_one.new in
+    let e = c.take_one.ensures in
+    record {
+      went = went_by g c.args.most c.args.turn.now o.turn c.args.board.now o.board _
+          (from g c.args.turn.now c.args.board.now o.board _ c.requires.parts e.runs)
+          (subst (λ k. IsTaken g c.args.most o.turn.parts o.board k) c.in-Asks.is e.taken).0
+          tt e.count e.keeps.1;
+    }
+
+pub returns-in-Some : goal.returns-in-Some
+returns-in-Some c =
+    let g = c.args.guest in
+    let a = c.args.board.now in
+    let t = c.args.turn.now in
+    let o = c.take_one.new in
+    let e = c.take_one.ensures in
+    let t' = c.next_part.new.self in
+    let part = c.in-Some.part in
+    record {
+      went = went_by g c.args.most t t' a o.board _
+          (still_on g (stand_of t) (stand_of o.turn) (standing (part ∷ t'.parts) t'.going) a o.board
+          (ap (λ v. standing (part ∷ t'.parts) v.going) c.next_part.ensures.rest
+          ∙ ap (λ ps. standing ps o.turn.going) (sym c.in-Some.ensures.some))
+          (from g t a o.board _ c.requires.parts e.runs))
+          tt tt e.count (ap (λ v. v.asked) c.next_part.ensures.rest ∙ e.keeps.1);
+    }
+
+pub returns-in-None : goal.returns-in-None
+returns-in-None c =
+    let g = c.args.guest in
+    let a = c.args.board.now in
+    let t = c.args.turn.now in
+    let o = c.take_one.new in
+    let e = c.take_one.ensures in
+    let t' = c.next_part.new.self in
+    let none = c.next_part.ensures.none c.in-None.is in
+    let does : DoesSome g (standing [] t.going) a (stand_of o.turn) o.board =
+    elim (e.did c.in-Did.is) [
+      | inl some ↦ some
+      | inr parts ↦ absurd (parts none.0)
+    ] in
+    record {
+      went = went_by g c.args.most t t' a o.board _
+          (subst (λ v. Runs g (stand_of t) a (stand_of v) o.board) (sym none.1)
+          (from g t a o.board _ c.requires.parts e.runs))
+          tt
+          (subst (λ v. DoesSome g (stand_of t) a (stand_of v) o.board) (sym none.1)
+          (subst (λ ps. DoesSome g (standing ps t.going) a (stand_of o.turn) o.board)
+          (sym c.requires.parts) does))
+          e.count (ap (λ v. v.asked) none.1 ∙ e.keeps.1);
+    }
+
+pub settle_down-requires-clause-parts : goal.settle_down-requires-clause-parts
+settle_down-requires-clause-parts c =
+    (subst (λ k. IsTaken c.args.guest c.args.most c.take_one.new.turn.parts c.take_one.new.board k)
+    c.in-Nothing.is c.take_one.ensures.taken).1
+
+pub returns-in-Nothing : goal.returns-in-Nothing
+returns-in-Nothing c =
+    let g = c.args.guest in
+    let o = c.take_one.new in
+    let e = c.take_one.ensures in
+    let s = c.settle_down.new in
+    record {
+      went = went_after g c.args.most c.args.turn.now o.turn s.turn c.args.board.now o.board s.board
+          c.settle_down.result
+          (from g c.args.turn.now c.args.board.now o.board _ c.requires.parts e.runs)
+          e.count e.keeps.1
+          (c.settle_down.ensures.went c.args.most
+          (subst (λ k. IsTaken g c.args.most o.turn.parts o.board k) c.in-Nothing.is e.taken).0);
+    }
+
+pub settle_down-requires-in-Refused-clause-parts : goal.settle_down-requires-in-Refused-clause-parts
+settle_down-requires-in-Refused-clause-parts c =
+    (subst (λ k. IsTaken c.args.guest c.args.most c.take_one.new.turn.parts c.take_one.new.board k)
+    c.in-Refused.is c.take_one.ensures.taken).1
+
+pub returns-in-Refused : goal.returns-in-Refused
+returns-in-Refused c =
+    let g = c.args.guest in
+    let o = c.take_one.new in
+    let e = c.take_one.ensures in
+    let s = c.settle_down-in-Refused.new in
+    record {
+      went = went_after g c.args.most c.args.turn.now o.turn s.turn c.args.board.now o.board s.board
+          c.settle_down-in-Refused.result
+          (from g c.args.turn.now c.args.board.now o.board _ c.requires.parts e.runs)
+          e.count e.keeps.1
+          (c.settle_down-in-Refused.ensures.went c.args.most
+          (subst (λ k. IsTaken g c.args.most o.turn.parts o.board k) c.in-Refused.is e.taken).0);
+    }

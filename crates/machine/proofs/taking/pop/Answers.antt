@@ -1,12 +1,14 @@
-use Rattle.std.proofs.Common.{inl, inr, refl, ap, subst, ◌∙◌, [], Ok, Err, true, false}
+use Rattle.std.proofs.Common.{inl, inr, refl, ap, sym, subst, ◌∙◌, [], Ok, Err, true, false}
 use Rattle.machine.proofs.Common.{Makes, outbox_state, OutboxMakes, stand_of, standing}
 use Rattle.board.specs.Asking.{PopsAsked}
 use Rattle.board.specs.Steps.{did_answer}
 use Rattle.board.specs.declared.step.Seen.TheVariants.{Did, Nothing}
 use Rattle.board.specs.declared.step.Step.TheVariants as step
 use Rattle.board.specs.declared.step.StepFault.TheVariants as fault
-use Rattle.machine.specs.Ending.{Refuses}
-use Rattle.machine.proofs.Popping.{found_none, gives_up, noted_at, pops_by, some_at, still_by}
+use Rattle.machine.specs.Ending.{IsTaken, Refuses}
+use Rattle.machine.specs.declared.taking.Taken.{Taken}
+use Rattle.machine.proofs.Popping.{found_none, gives_up, noted_at, pops_by, pops_does, some_at}
+use Rattle.machine.proofs.Popping.{still_by}
 use Rattle.machine.proofs.taking.pop.Goals as goal
 
 pub returns-then-not-note_event-clause-runs : goal.returns-then-not-note_event-clause-runs
@@ -35,13 +37,14 @@ returns-in-Err-Refused-clause-runs c =
     device.0 device.1 makes (ap (λ t. t.going) c.stop.ensures)
     (inr (ap (λ t. t.parts) c.stop.ensures, (λ same. absurd (let no = same in cc))))
 
-pub returns-in-Err-Refused-clause-fault : goal.returns-in-Err-Refused-clause-fault
-returns-in-Err-Refused-clause-fault c f is =
+pub returns-in-Err-Refused-clause-taken : goal.returns-in-Err-Refused-clause-taken
+returns-in-Err-Refused-clause-taken c most =
     let makes = subst (λ e. PopsAsked outbox_state OutboxMakes c.args.guest (Err e)
-    c.args.board.now c.pop.new.self) c.in-Err-Refused.field-0-is c.in-Err-Refused.ensures.pops in
-    Refuses c.args.board.now c.pop.new.self (step.Pop c.args.guest)
-    (fault.Device c.in-Err-Refused.fault) (inl refl) makes
-    (let same = is in let why = c.of_device.ensures in cc)
+    c.args.board.now c.pop.new.self) c.in-Err-Refused.field-0-is c.in-Err-Refused.ensures.pops in (
+      Refuses c.args.board.now c.pop.new.self (step.Pop c.args.guest)
+          (fault.Device c.in-Err-Refused.fault) (inl refl) makes c.of_device.ensures,
+      ap (λ t. t.parts) c.stop.ensures,
+    )
 
 pub returns-in-Ok-true-clause-runs : goal.returns-in-Ok-true-clause-runs
 returns-in-Ok-true-clause-runs c =
@@ -68,15 +71,38 @@ returns-in-Ok-false-clause-runs c =
             let yes = did in cc)),
         (λ same. absurd (let no = same in cc)),
       )
-      | inr did ↦ inl (c.found_none.ensures.did did
+      | inr did ↦ inl ((c.found_none.ensures.did did).0
           ∙ noted_at _ device.0 _ _ device.1 c.requires.parts
           (c.note_event.ensures.noted c.if-not-note_event.false))
     ])
 
-pub returns-in-Ok-false-clause-none : goal.returns-in-Ok-false-clause-none
-returns-in-Ok-false-clause-none c is =
+pub returns-in-Ok-true-clause-did : goal.returns-in-Ok-true-clause-did
+returns-in-Ok-true-clause-did c is =
+    let g = c.args.guest in
+    let device = some_at c.args.board.now.devices g c.requires.guest in
+    let makes = subst (λ did. Makes (step.Pop g) (did_answer did) c.args.board.now c.pop.new.self)
+    c.in-Ok-true.field-0-test c.in-Ok-true.ensures.pops in
+    inl (pops_does g _ _ (Ok Did) c.args.board.now c.pop.new.self device.0 device.1 makes refl
+    (ap (λ t. t.parts) c.turn.view_is
+    ∙ noted_at _ device.0 _ _ device.1 c.requires.parts
+    (c.note_event.ensures.noted c.if-not-note_event.false))
+    (λ same. absurd (let no = same in cc)))
+
+pub returns-in-Ok-false-clause-taken : goal.returns-in-Ok-false-clause-taken
+returns-in-Ok-false-clause-taken c most =
     let g = c.args.guest in
     let makes = subst (λ did. Makes (step.Pop g) (did_answer did) c.args.board.now c.pop.new.self)
     c.in-Ok-false.field-0-test c.in-Ok-false.ensures.pops in
-    found_none g c.args.board.now c.pop.new.self c.what_always_holds.ensures
-    c.requires.guest c.requires.job makes
+    let found = found_none g c.args.board.now c.pop.new.self c.what_always_holds.ensures
+    c.requires.guest c.requires.job makes in
+    let taken_ : Taken → Type 0 = λ t. IsTaken g most c.found_none.new.turn.parts c.pop.new.self t in
+    elim c.found_none.ensures.either [
+      | inl nothing ↦ subst taken_ (sym nothing) (
+        (found.1, inl found.0),
+        c.found_none.ensures.nothing (λ did. absurd (let no = nothing in let yes = did in cc)),
+      )
+      | inr did ↦ subst taken_ (sym did) tt
+    ]
+
+pub returns-in-Ok-false-clause-did : goal.returns-in-Ok-false-clause-did
+returns-in-Ok-false-clause-did c is = inr (c.found_none.ensures.did is).1

@@ -1,17 +1,30 @@
-use Rattle.std.proofs.Common.{ap, inl, inr, refl, subst}
+use Rattle.std.proofs.Common.{ap, inl, inr, refl, subst, sym}
 use Rattle.machine.proofs.Common.{stand_of, standing}
-use Rattle.machine.specs.Ending.{HasReason}
+use Rattle.machine.specs.Ending.{IsTaken}
+use Rattle.machine.specs.declared.taking.Taken.{Taken}
+use Rattle.machine.specs.Serving.{DoesSome}
 use Rattle.machine.proofs.Popping.{still_by}
 use Rattle.machine.proofs.taking.take_one.Goals as goal
 
-pub returns-then-is_some-clause-fault : goal.returns-then-is_some-clause-fault
-returns-then-is_some-clause-fault c f is = elim c.submit.ensures.either [
-  | inl did ↦ absurd (let no = did in let yes = is in cc)
-  | inr refused ↦ subst (λ (w : _). HasReason c.args.guest w)
-      (let a = refused.is in let b = is in cc) refused.reason
-]
+pub returns-then-is_some-clause-taken : goal.returns-then-is_some-clause-taken
+returns-then-is_some-clause-taken c =
+    let taken_ : Taken → Type 0 =
+    λ t. IsTaken c.args.guest c.args.most c.args.turn.now.parts c.submit.new.board t in
+    elim c.submit.ensures.either [
+      | inl did ↦ subst taken_ (sym did) tt
+      | inr refused ↦ subst taken_ (sym refused.is) (refused.reason, c.requires.parts)
+    ]
+
+pub returns-then-is_some-clause-did : goal.returns-then-is_some-clause-did
+returns-then-is_some-clause-did c is =
+    let s = standing c.args.turn.now.parts c.args.turn.now.going in
+    inl (subst (λ ps. DoesSome c.args.guest (standing ps c.args.turn.now.going) c.args.board.now s
+    c.submit.new.board) c.requires.parts (c.submit.ensures.did is s))
 
 pub returns-then-not-awaits_fewer-clause-runs : goal.returns-then-not-awaits_fewer-clause-runs
 returns-then-not-awaits_fewer-clause-runs c =
     still_by c.args.guest c.args.turn.now.going (stand_of c.args.turn.now) c.args.board.now
     c.args.board.now (ap (λ ps. standing ps c.args.turn.now.going) c.requires.parts) refl
+
+pub returns-clause-taken : goal.returns-clause-taken
+returns-clause-taken c = c.look.ensures.taken c.args.most

@@ -17,11 +17,12 @@ loop-guest-init c = (
 
 pub loop-guest-preserved : goal.loop-guest-preserved
 loop-guest-preserved c =
-    let l = c.loop-guest in (
-      goes_more _ c.args.self.now.board l.self-inside.board c.hand_in.new.board l.invariant.0
-          (standing [] false) (c.hand_in.ensures.runs (standing [] false)),
-      c.hand_in.ensures.devices ∙ l.invariant.1,
-      c.hand_in.ensures.jobs ∙ l.invariant.2,
+    let l = c.loop-guest in
+    let h = c.hand_all in (
+      goes_more _ c.args.self.now.board l.self-inside.board h.new.board l.invariant.0
+          (standing [] false) (h.ensures.runs (standing [] false)),
+      h.ensures.devices ∙ l.invariant.1,
+      h.ensures.keeps.0 ∙ l.invariant.2,
       l.invariant.3,
       l.invariant.4,
     )
@@ -29,12 +30,10 @@ loop-guest-preserved c =
 pub returns-clause-goes : goal.returns-clause-goes
 returns-clause-goes c =
     let l = c.loop-guest in
-    let w = c.write_out.ensures in
     record {
-      moves = goes_more 0 c.args.self.now.board l.self-inside.board c.write_out.new.board
-          l.invariant.0 (standing [] false) (w.runs 0 (standing [] false));
-      devices = w.devices ∙ l.invariant.1;
-      jobs = w.jobs ∙ l.invariant.2;
+      moves = l.invariant.0;
+      devices = l.invariant.1;
+      jobs = l.invariant.2;
       turns = l.invariant.4;
       setups = l.invariant.3;
     }

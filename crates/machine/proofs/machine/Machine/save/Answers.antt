@@ -1,4 +1,4 @@
-use Rattle.std.proofs.Common.{◌≡◌, ◌%◌, ◌∙◌, ap, refl, sym, subst, rules, true, length, Some, List, ℕ}
+use Rattle.std.proofs.Common.{◌≡◌, ◌%◌, ◌∙◌, ap, refl, sym, subst, rules, length, Some}
 use Rattle.machine.proofs.Common.{slice_get}
 use Rattle.machine.proofs.States.{device_back, its, small_of, whole}
 use Rattle.machine.specs.Resting.{NotYet, RestsAs, is_its_by}

@@ -162,6 +162,6 @@ returns-clause-tells c =
     (tells_of m g room c.most-most.result c.index.result.now c.index_mut-turn.result.now s.new.turn
     s.new.board s.new.bytes s.result c.served-2.result setup its
     (has_all m g c.index.result.now c.index_mut-turn.result.now device.0 setup its device.1)
-    c.most-most.ensures c.served-2.ensures.next s.ensures.runs s.ensures.needs
+    c.most-most.ensures c.served-2.ensures.next s.ensures.runs s.ensures.needs s.ensures.busy
     c.served-2.ensures.sync
     c.served-2.ensures.waiting))
