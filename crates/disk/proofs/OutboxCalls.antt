@@ -8,7 +8,7 @@ use Rattle.disk.specs.Disk.{Counts, DiskState, Sync, Write}
 use Rattle.disk.specs.Kept.{Note, file_after, synced, wrote}
 use Rattle.disk.specs.Outbox.{OutboxView, put_in}
 use Rattle.disk.specs.OutboxDisk.{IsReadable, OutboxMakes, OutboxState, after_sync, after_write}
-use Rattle.disk.specs.OutboxDisk.{counted, ends, failures_after}
+use Rattle.disk.specs.OutboxDisk.{counted, ends, failures_after, sync_succeeds, write_succeeds}
 
 -- 1. What reads give
 
@@ -72,6 +72,7 @@ kept_count n = refl
 pub makes_sync : (now old : OutboxState) (log : List Note) (failed : Bool) (failures : ℕ)
     → old ≡ now → log ≡ synced ∷ old.kept → failed ≡ false
     → failures ≡ failures_after true old.failures → old.failures < 2 ^ 64 - 1
+    → true ≡ sync_succeeds old
     → OutboxMakes now (Sync true) (record {
       len = old.len;
       image = old.image;
@@ -83,7 +84,7 @@ pub makes_sync : (now old : OutboxState) (log : List Note) (failed : Bool) (fail
       failures = failures;
     })
 unfolding file_after after_sync counted
-makes_sync now old log failed failures is noted told count few =
+makes_sync now old log failed failures is noted told count few due =
     let same = count ∙ kept_count old.failures in
     subst (λ o. OutboxMakes o (Sync true) (record {
       len = old.len;
@@ -121,6 +122,7 @@ makes_sync now old log failed failures is noted told count few =
         failed = f;
         failures = n;
       }) told count;
+      due = due;
     }))
 
 over_inside : (at : ℕ) (bytes : List ℕ) (c : Content) (k : ℕ) → k < length bytes
@@ -145,7 +147,7 @@ pub makes_write : (now old : OutboxState) (at : ℕ) (bytes image : List ℕ) (l
     (outbox : OutboxView) (failed : Bool) (failures : ℕ) → old ≡ now → image ≡ []
     → log ≡ wrote at bytes ∷ old.kept → outbox ≡ put_in at bytes old.outbox → failed ≡ false
     → failures ≡ failures_after true old.failures
-    → old.failures < 2 ^ 64 - 1
+    → old.failures < 2 ^ 64 - 1 → true ≡ write_succeeds (length bytes) old
     → OutboxMakes now (Write at bytes true) (record {
       len = old.len;
       image = image;
@@ -156,7 +158,7 @@ pub makes_write : (now old : OutboxState) (at : ℕ) (bytes image : List ℕ) (l
       failures = failures;
     })
 unfolding file_after after_write counted
-makes_write now old at bytes image log outbox failed failures is none noted put told count few =
+makes_write now old at bytes image log outbox failed failures is none noted put told count few due =
     let same = count ∙ kept_count old.failures in
     subst (λ o. OutboxMakes o (Write at bytes true)
     (record {
@@ -207,4 +209,5 @@ makes_write now old at bytes image log outbox failed failures is none noted put 
             failures = failures_after true old.failures;
           }) none
           put;
+      due = due;
     }))

@@ -99,10 +99,18 @@ outbox_after (Read ok) d = counted ok d
 outbox_after (Write at bytes ok) d = after_write at bytes ok d
 outbox_after (Sync ok) d = after_sync ok d
 
+-- A write and a sync succeed just where they can: no call fails by itself. (What a read is to read
+-- a call doesn't say.)
+abbrev pub EndsAsDue : DiskCall → OutboxState → Type 0
+EndsAsDue (Read ok) d = Unit {0}
+EndsAsDue (Write at bytes ok) d = ok ≡ write_succeeds (length bytes) d
+EndsAsDue (Sync ok) d = ok ≡ sync_succeeds d
+
 -- a call leads from this disk to that one
 pub record OutboxMakes (old : OutboxState) (call : DiskCall) (new : OutboxState) : Type 0 where
   pub effect : Effect (outbox_state old) call (outbox_state new)
   pub value : new ≡ outbox_after call old
+  pub due : EndsAsDue call old
 
 -- 3. What its owner tells it
 

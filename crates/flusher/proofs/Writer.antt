@@ -1,6 +1,6 @@
 -- The guest whose turn it is.
 use Rattle.std.proofs.Common.{◌≡◌, Bool, IsTrue, Option, Some, None, ℕ, arith, List, get_or, refl}
-use Rattle.std.proofs.Common.{sym, ◌∙◌, subst, ⊎_elim}
+use Rattle.std.proofs.Common.{ap, sym, ◌∙◌, subst, ⊎_elim}
 use Rattle.flusher.proofs.Common.{slice_get, slice_set, position, position-Some, slice_get-get_or}
 use Rattle.flusher.proofs.Common.{DiskCall, Write, Region, SlotRegion, Entry, Group, Intent, Slot}
 use Rattle.flusher.proofs.Common.{Guest, last_of, open_write, Turn, spelled, intent_of, after_sync}
@@ -10,6 +10,7 @@ use Rattle.std.specs.Prelude.{MatchOption}
 use Rattle.intent_slots.specs.Home.{home_bytes}
 use Rattle.flusher.specs.Round.{WroteSlot}
 use Rattle.flusher.proofs.Guests.{set_cases, map_cases}
+use Rattle.flusher.proofs.Shortness.{IsShort, guest_short}
 use Rattle.std.specs.Prelude.{map}
 
 pub of_home : {D : Type 0} (makes : D → DiskCall → D → Type 0) (od nd : D) (ok : Bool)
@@ -77,6 +78,23 @@ module _ (xs : List Guest) (g : ℕ) (none : Guest) (next : position guest_has_w
 
     module _ {D : Type 0} (makes : D → DiskCall → D → Type 0) (od nd : D) (ok : Bool) (moved : Guest)
         (is : moved ≡ guest_after_write (get_or xs g none)) where
-      pub wrote_slot : MatchOption (guest_write (get_or xs g none)) ⊥ (λ w.
-          makes od (Write w.0 w.1 ok) nd) → WroteSlot makes g od xs ok nd (slice_set xs g moved)
-      wrote_slot m = grind (arith, in_place)
+      written_by : (o : Option (ℕ × List ℕ)) → guest_write (get_or xs g none) ≡ o → IsShort o
+          → MatchOption o ⊥ (λ w. makes od (Write w.0 w.1 ok) nd)
+          → WroteSlot makes g od xs ok nd (slice_set xs g moved)
+      written_by None next short call = absurd call
+      written_by (Some w) next short call = record {
+        guest = get_or xs g none;
+        is = in_place;
+        at = w.0;
+        bytes = w.1;
+        next = next;
+        few = short;
+        call = call;
+        slots = ap (slice_set xs g) is;
+      }
+
+      pub wrote_slot : (len : ℕ) → AllFit len xs
+          → MatchOption (guest_write (get_or xs g none)) ⊥ (λ w. makes od (Write w.0 w.1 ok) nd)
+          → WroteSlot makes g od xs ok nd (slice_set xs g moved)
+      wrote_slot len fits call = written_by (guest_write (get_or xs g none)) refl
+          (guest_short len g (get_or xs g none) (its_fit len fits)) call

@@ -1,5 +1,5 @@
 -- The one call that an advance makes (own).
-use Rattle.std.specs.Prelude.{◌≡◌, ◌⊎◌, ◌<◌, ℕ, Bool, true, false, List, length, map, slice_get}
+use Rattle.std.specs.Prelude.{◌≡◌, ◌⊎◌, ◌<◌, ◌≤◌, ℕ, Bool, true, false, List, length, map, slice_get}
 use Rattle.std.specs.Prelude.{slice_set, Option, Some, None, Result, Ok, Err, position}
 use Rattle.std.specs.Prelude.{if◌then◌else◌}
 use Rattle.std.specs.List.{list_any}
@@ -56,6 +56,8 @@ pub record WroteSlot {D : Type 0} (makes : D → DiskCall → D → Type 0) (g :
   pub at : ℕ
   pub bytes : List ℕ
   pub next : guest_write guest ≡ Some (at, bytes)
+  -- no write is larger than the largest payload
+  pub few : length bytes ≤ 16648
   pub call : makes old_disk (Write at bytes ok) new_disk
   pub slots : new ≡ slice_set old g (guest_after_write guest)
 

@@ -34,4 +34,5 @@ returns-clause-wrote g c =
     let two = c.index-guests-guest-2.result in
     wrote_slot xs c.args.guest one c.requires.next g.D.Disk.makes _ _ _ c.move_written.new.self
     (c.move_written.ensures ∙ ap guest_after_write
-    (default_is xs c.args.guest two one c.requires.next)) c.write_next-wrote.ensures.wrote
+    (default_is xs c.args.guest two one c.requires.next))
+    (g.D.Disk.state c.args.disk.now).len c.requires.fits c.write_next-wrote.ensures.wrote
