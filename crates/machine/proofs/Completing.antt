@@ -15,14 +15,18 @@ use Rattle.machine.specs.Serving.{Hears}
 use Rattle.machine.specs.Turn.{Stand, TurnState, stand_of}
 use Rattle.machine.proofs.Others.{others_stay}
 use Rattle.machine.proofs.Runs.{runs_moves}
+use Rattle.machine.proofs.Whole.{runs_whole}
 
 pub completes : (told : Told) (m : MachineState) (b' new : Boards)
-    → b' ≡ telling_board told m.board → Hears b' new → (s : Stand) → Runs 0 s b' s new
-    → new.devices ≡ b'.devices → Completes told m (record m { board = new })
-completes told m b' new is hears s runs devices = record {
+    → b' ≡ telling_board told m.board → Hears b' new → new.devices ≡ b'.devices
+    → Completes told m (record m { board = new })
+completes told m b' new is hears devices = record {
   hears = subst (λ b. Hears b new) is hears;
   moves = subst (λ b. Moves outbox_state OutboxMakes (board_of b) (board_of new)) is
-      (runs_moves 0 s s b' new runs);
+      (moves_twice outbox_state OutboxMakes (board_of b') (board_of hears.heard) (board_of new)
+      hears.hears.steps.moves
+      (moves_twice outbox_state OutboxMakes (board_of hears.heard) (board_of hears.made)
+      (board_of new) hears.makes_it.steps.moves hears.hears_it.steps.moves));
   devices = devices ∙ ap (λ b. b.devices) is;
   turns = refl;
   setups = refl;
@@ -33,6 +37,7 @@ pub serves : (guest : ℕ) (m : MachineState) (turn turn' : TurnState) (new : Bo
     → IsServed guest m (record m { board = new; turns = slice_set m.turns guest turn' })
 serves guest m turn turn' new t its runs = record {
   moves = runs_moves guest (stand_of turn) t m.board new runs;
+  whole = runs_whole guest (stand_of turn) t m.board new runs;
   others = others_stay guest (stand_of turn) t m.board new runs;
   turns = λ k other. get_set_other m.turns guest k turn' other;
   setups = refl;
@@ -41,6 +46,7 @@ serves guest m turn turn' new t its runs = record {
 pub serves_none : (guest : ℕ) (m : MachineState) → IsServed guest m m
 serves_none guest m = record {
   moves = moves_none outbox_state OutboxMakes (board_of m.board);
+  whole = λ failed few. (failed, refl, refl);
   others = record {
     devices = λ k other. refl;
     jobs = λ k other. refl;

@@ -13,8 +13,8 @@ use Rattle.board.specs.Asking.{ForPop}
 use Rattle.board.specs.State.{in_place}
 use Rattle.machine.proofs.Common.{slice_get, AskingState, Boards, MachineFault, Range, Runs}
 use Rattle.machine.specs.Ending.{FindsNone, GoesOnFor, HasEnded, HasSeenAll, IsHandedOn}
-use Rattle.machine.specs.Ending.{NeedsNext, NotifiesNext, RestsAt, SawAll, Went, is_write, left_by}
-use Rattle.machine.specs.Serving.{HasNoReply, KeepsWaiting, SameDevices}
+use Rattle.machine.specs.Ending.{NeedsNext, NotifiesNext, RestsAt, SawAll, Went, left_by}
+use Rattle.machine.specs.Serving.{HasNoReply, KeepsWaiting, SameDevices, is_write}
 use Rattle.machine.specs.Turn.{Stand, TurnState, stand_of}
 use Rattle.machine.specs.declared.serving.Next.{Next}
 use Rattle.machine.specs.declared.serving.Next.TheVariants as next

@@ -15,4 +15,5 @@ pub mod States
 pub mod Stops
 pub mod Told
 pub mod Waiting
+pub mod Whole
 pub mod Writing

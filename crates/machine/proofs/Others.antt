@@ -1,5 +1,6 @@
 -- What the steps of one guest leave of the others.
-use Rattle.std.proofs.Common.{◌≡◌, ◌≢◌, refl, sym, subst, ap, ◌∙◌, inl, inr, ℕ, Bool, true, false, List}
+use Rattle.std.proofs.Common.{◌≡◌, ◌≢◌, refl, sym, subst, ap, ◌∙◌, inl, inr, ℕ, Bool, true, false}
+use Rattle.std.proofs.Common.{List}
 use Rattle.std.proofs.Common.{[], Option, Some, None}
 use Rattle.machine.proofs.Common.{slice_get, slice_set, DiskCall, DiskState, Intent, DeviceState}
 use Rattle.machine.proofs.Common.{Done, Job, Tally, BoardState, Fault, Marks, Report, put}
@@ -130,22 +131,22 @@ module _ {D : Type 0} (shows : D → DiskState) (makes : D → DiskCall → D �
 
 -- the guest of a step is the one that is served
 module _ (guest : ℕ) where
-  one_stays : (s : Step) (answer : Answer) (old new : BoardState OutboxState) → IsShare guest s
-      → Does outbox_state OutboxMakes s answer old new → OthersStay guest old new
-  one_stays (step.Drive g act) answer old new share does = absurd share
-  one_stays (step.Pop g) answer old new share does = absurd share
-  one_stays (step.Submit g) answer old new share does = subst (λ n. OthersStay n old new) share
+  one_stays : (s : Step) (answer : Answer) (b : Boards) (old new : BoardState OutboxState)
+      → IsShare guest s b → Does outbox_state OutboxMakes s answer old new → OthersStay guest old new
+  one_stays (step.Drive g act) answer b old new share does = absurd share
+  one_stays (step.Pop g) answer b old new share does = absurd share
+  one_stays (step.Submit g) answer b old new share does = subst (λ n. OthersStay n old new) share
       (submit_stays outbox_state OutboxMakes g old answer new _ _ does)
-  one_stays (step.Collect g) answer old new share does = subst (λ n. OthersStay n old new) share
+  one_stays (step.Collect g) answer b old new share does = subst (λ n. OthersStay n old new) share
       (collect_stays outbox_state OutboxMakes g old answer new _ does)
-  one_stays (step.Publish g) answer old new share does = absurd share
-  one_stays (step.Take g) answer old new share does = subst (λ n. OthersStay n old new) share
+  one_stays (step.Publish g) answer b old new share does = absurd share
+  one_stays (step.Take g) answer b old new share does = subst (λ n. OthersStay n old new) share
       (take_stays outbox_state OutboxMakes g old answer new _ does)
-  one_stays (step.Give g) answer old new share does = subst (λ n. OthersStay n old new) share
+  one_stays (step.Give g) answer b old new share does = subst (λ n. OthersStay n old new) share
       (give_stays outbox_state OutboxMakes g old answer new _ _ does)
-  one_stays step.Advance answer old new share does =
+  one_stays step.Advance answer b old new share does =
       advance_stays outbox_state OutboxMakes guest old answer new _ does
-  one_stays step.Settle answer old new share does =
+  one_stays step.Settle answer b old new share does =
       settle_stays outbox_state OutboxMakes guest old answer new _ does
 
   -- a device that was moved alone, or with the reply in its place
@@ -189,7 +190,7 @@ module _ (guest : ℕ) where
   others_stay s t a b (Then q r x y z o answer runs share makes) =
       stays_twice outbox_state OutboxMakes guest (board_of x) (board_of y) (board_of z)
       (others_stay q r x y runs)
-      (one_stays o answer (board_of y) (board_of z) share makes.steps.does)
+      (one_stays o answer y (board_of y) (board_of z) share makes.steps.does)
   others_stay s t a b (Pops q r x y z answer runs pops) =
       stays_twice outbox_state OutboxMakes guest (board_of x) (board_of y) (board_of z)
       (others_stay q (standing [] true) x y runs)

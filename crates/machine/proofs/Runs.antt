@@ -1,8 +1,10 @@
 -- What serves a guest, one part after another.
 use Rattle.std.proofs.Common.{◌≡◌, ◌≢◌, ap, sym, subst, ◌∙◌, ℕ, Bool, true, false, List, [], Ok}
 use Rattle.machine.proofs.Common.{slice_set, OutboxMakes, OutboxState, outbox_state}
-use Rattle.machine.proofs.Common.{AskingState, BoardState, board_of, with_devices, Moves, moves_none}
-use Rattle.machine.proofs.Common.{moves_twice, lent_moves, Answer, Step, Range, Boards, Calls, Hands}
+use Rattle.machine.proofs.Common.{AskingState, BoardState, board_of, with_devices, Moves}
+use Rattle.machine.proofs.Common.{moves_none}
+use Rattle.machine.proofs.Common.{moves_twice, lent_moves, Answer, Step, Range, Boards, Calls}
+use Rattle.machine.proofs.Common.{Hands}
 use Rattle.machine.proofs.Common.{IsShare, Knows, LearnsOf, Makes, Pops, Runs}
 use Rattle.machine.proofs.Common.{Still, Then, Voids, GivesUp, Stand, standing}
 use Rattle.board.proofs.AskingSteps.{device_in, map-set}
@@ -29,7 +31,7 @@ module _ (guest : ℕ) where
       Voids s r g a y z (runs_twice s q (standing r g) a x y p runs) refuses
 
   -- a step that no device makes
-  pub runs_step : (s : Stand) (a b : Boards) (x : Step) (answer : Answer) → IsShare guest x
+  pub runs_step : (s : Stand) (a b : Boards) (x : Step) (answer : Answer) → IsShare guest x a
       → Makes x answer a b → Runs guest s a s b
   runs_step s a b x answer share makes = Then s s a a b x answer (Still s a) share makes
 
@@ -72,7 +74,7 @@ module _ (guest : ℕ) where
       ByStop s u qs g a y z c (runs_twice s t (standing qs g) a b y first before) refuses after
 
   -- a step that no device makes, and that isn't for nothing
-  pub does_step : (s : Stand) (a b : Boards) (x : Step) (answer : Answer) → IsShare guest x
+  pub does_step : (s : Stand) (a b : Boards) (x : Step) (answer : Answer) → IsShare guest x a
       → Makes x answer a b → answer ≢ Ok Nothing → DoesSome guest s a s b
   does_step s a b x answer share makes some =
       ByStep s s s a a b b x answer (Still s a) share makes some (Still s b)

@@ -1,5 +1,6 @@
 -- What is saved of a device is what is read of its words.
-use Rattle.std.proofs.Common.{◌≡◌, refl, ap, ◌∙◌, ℕ, ◌+◌, ◌*◌, ◌/◌, ◌%◌, ◌<◌, Bool, true, false, not, ◌==◌, ◌&&◌, Option, Some, None, arith}
+use Rattle.std.proofs.Common.{◌≡◌, refl, ap, ◌∙◌, ℕ, ◌+◌, ◌*◌, ◌/◌, ◌%◌, ◌<◌, Bool, true, false}
+use Rattle.std.proofs.Common.{not, ◌==◌, ◌&&◌, Option, Some, None, arith}
 use Rattle.rpmb_frame.specs.declared.config.RingKind.{RingKind}
 use Rattle.rpmb_frame.specs.declared.config.RingKind.TheVariants.{Split, Packed}
 use Rattle.std.specs.Prelude.{if◌then◌else◌}
@@ -8,7 +9,8 @@ use Rattle.mmio_transport.specs.declared.registers.Registers.{Registers}
 use Rattle.mmio_transport.specs.Resting.{MayGoOn}
 use Rattle.mmio_transport.specs.declared.saving.RestingDevice.{RestingDevice}
 use Rattle.mmio_transport.specs.declared.saving.RestingQueue.{RestingQueue}
-use Rattle.machine.specs.State.{flag_number, is_of, is_state, low, high, words_of, device_in, registers_in, resting_in, queue_in, kind_number}
+use Rattle.machine.specs.State.{flag_number, is_of, is_state, low, high, words_of, device_in}
+use Rattle.machine.specs.State.{registers_in, resting_in, queue_in, kind_number}
 use Rattle.machine.specs.declared.settings.Setup.{Setup}
 
 flag_back : (b : Bool) → not (flag_number b == 0) ≡ b

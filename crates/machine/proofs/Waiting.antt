@@ -4,7 +4,7 @@ use Rattle.std.proofs.Common.{◌≡◌, refl, ap, ◌∙◌, ℕ, ◌+◌, Bool
 use Rattle.std.proofs.Common.{length, arith}
 use Rattle.std.specs.Prelude.{option_map, if◌then◌else◌, ◌==◌}
 use Rattle.machine.proofs.Common.{◌&&◌, slice_get, is_some, Answer, AdvancesUnder, BoardState}
-use Rattle.machine.proofs.Common.{ Boards, Fault, GivesWhere, Intent, Makes, Marks}
+use Rattle.machine.proofs.Common.{Boards, Fault, GivesWhere, Intent, Makes, Marks}
 use Rattle.machine.proofs.Common.{OutboxMakes, OutboxState, Report, SettlesBy, TakesInto, board_of}
 use Rattle.machine.proofs.Common.{in_place, outbox_state}
 use Rattle.board.proofs.Common.{length-map}
@@ -109,8 +109,9 @@ module _ (k : ℕ) (old new : BoardState OutboxState) where
       let all = marks_for (length (state old.book).guests) marks in
       waits_by
       (ap (λ b. count_held (guest_of b.book k)) does.1
-      ∙ turned_where (may_settle old.book old.shares marks && move_some (state old.book).guests marks)
-      old.book (Settle all) k (settled_held (slice_get all k)))
+      ∙ turned_where
+      (may_settle old.book old.shares marks && move_some (state old.book).guests marks) old.book
+      (Settle all) k (settled_held (slice_get all k)))
       (ap (λ b. b.jobs) does.1) (ap (λ b. b.dones) does.1)
   settle_waits answer (Some Fault) does = waits_by
       (ap (λ b. count_held (guest_of b.book k)) does.1

@@ -1,12 +1,11 @@
 -- What a serve ends with: what it asks for, where it rests, and why it tells a fault.
-use Rattle.std.specs.Prelude.{◌≡◌, ◌≢◌, ◌⊎◌, ◌≤◌, ℕ, Bool, true, false, nat_lt, List, [], ◌∷◌, length, Option, Some}
+use Rattle.std.specs.Prelude.{◌≡◌, ◌≢◌, ◌⊎◌, ◌≤◌, ℕ, Bool, true, false, nat_lt, List, [], ◌∷◌}
+use Rattle.std.specs.Prelude.{length, Option, Some}
 use Rattle.std.specs.Prelude.{None, Ok, Err, IfSome, map, nat_le, slice_get, slice_set, take, ◌<◌}
 use Rattle.chains.specs.declared.range.Range.{Range}
 use Rattle.disk.specs.Outbox.{has_room}
 use Rattle.disk.specs.OutboxDisk.{OutboxState}
 use Rattle.flusher.specs.Store.{is_free, next_call}
-use Rattle.flusher.specs.declared.progress.Call.{Call}
-use Rattle.flusher.specs.declared.progress.Call.TheVariants as call
 use Rattle.guest_memory.specs.Memory.{IsAsk, IsInside, bytes_at}
 use Rattle.intent_slots.specs.Payload.{Intent}
 use Rattle.rpmb_book.specs.Book.{next_intent}
@@ -22,7 +21,8 @@ use Rattle.board.specs.declared.step.Step.{Step}
 use Rattle.board.specs.declared.step.Step.TheVariants as step
 use Rattle.board.specs.declared.step.StepFault.{StepFault}
 use Rattle.board.specs.declared.step.StepFault.TheVariants as step_fault
-use Rattle.machine.specs.Serving.{Boards, DoesSome, HasNoReply, Makes, RefusesIn, Runs, standing}
+use Rattle.machine.specs.Serving.{Boards, DoesSome, HasNoReply, Makes, RefusesIn, Runs, is_write}
+use Rattle.machine.specs.Serving.{standing}
 use Rattle.machine.specs.declared.fault.MachineFault.{MachineFault}
 use Rattle.machine.specs.declared.fault.MachineFault.TheVariants as fault
 use Rattle.machine.specs.Turn.{Stand, TurnState, stand_of}
@@ -57,19 +57,14 @@ SawAll a = IfSome a.device.queue (λ q. nat_le q.ring.used a.told ≡ true)
 abbrev pub HasSeenAll : ℕ → Boards → Type 0
 HasSeenAll guest b = IfSome (slice_get b.devices guest) SawAll
 
-abbrev pub is_write : Call → Bool
-is_write call.Write = true
-is_write call.Sync = false
-is_write call.None = false
-
 -- for a write that comes next there is no room: the largest has 16,648 bytes
 abbrev pub HasRoomForNone : BoardState OutboxState → Type 0
 HasRoomForNone b = is_write (next_call b.store.broken b.store.guests) ≡ true
     → has_room 16648 b.store.disk.outbox ≡ false
 
 -- All of a guest that was accepted is with the store, as far as its slots are free: an intent that
--- was taken waits for one, and where none was taken the book has none to give. The book has heard of
--- the disk's last call, and no write could be made.
+-- was taken waits for one, and where none was taken the book has none to give. The book has heard
+-- of the disk's last call, and no write could be made.
 pub record IsHandedOn (guest : ℕ) (b : BoardState OutboxState) : Type 0 where
   pub heard : b.report ≡ None
   pub place : (i : Intent) → in_place (slice_get b.intents guest) ≡ Some i
@@ -112,8 +107,8 @@ pub data HasReason (guest : ℕ) (f : MachineFault) : Type 0 where
       → Makes s (Err e) before after → f ≡ reason_of e → HasReason guest f
   Lacks : f ≡ fault.NoMemory → HasReason guest f
 
--- No more of the guest's chains is taken: none lies without its answer, and none is available, or as
--- many wait for their answers as may. Or it is for a reason.
+-- No more of the guest's chains is taken: none lies without its answer, and none is available, or
+-- as many wait for their answers as may. Or it is for a reason.
 abbrev pub HasEnded : (guest most : ℕ) → Boards → Option MachineFault → Type 0
 HasEnded guest most b None =
     HasNoJob guest b.rest × (FindsNone guest b ⊎ (nat_lt (waiting guest b.rest) most ≡ false))
@@ -152,7 +147,8 @@ left_by (Some (next.Write part)) turn = standing (part ∷ turn.parts) turn.goin
 left_by (Some next.Call) turn = record (stand_of turn) { owed = true }
 left_by (Some (next.Rest f)) turn = stand_of turn
 
--- whether the driver is to be notified was seen: what that needs
+-- What it needs to see whether the driver is to be notified: bytes of its memory; the notification,
+-- where it is; or nothing.
 abbrev pub NotifiesNext : ℕ → Boards → Option Next → Type 0
 NotifiesNext guest b None = Unit {0}
 NotifiesNext guest b (Some next.Again) = ⊥
@@ -170,7 +166,7 @@ pub record AwaitsRoom (b : BoardState OutboxState) : Type 0 where
 abbrev pub IsBusy : ℕ → Stand → Boards → Stand → Boards → Type 0
 IsBusy guest s a t b = DoesSome guest s a t b ⊎ AwaitsRoom b.rest
 
--- Where a move needs nothing it did something; and where the serve is to be called again it is busy.
+-- Where a move needs nothing it did something; where the serve is to be called again it is busy.
 abbrev pub GoesOnFor : ℕ → Stand → Boards → TurnState → Boards → Option Next → Type 0
 GoesOnFor guest s a turn b None = DoesSome guest s a (stand_of turn) b
 GoesOnFor guest s a turn b (Some next.Again) = IsBusy guest s a (stand_of turn) b

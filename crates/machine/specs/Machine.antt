@@ -1,5 +1,6 @@
 -- What contracts see of a machine.
-use Rattle.std.specs.Prelude.{◌≡◌, ◌≢◌, ◌≤◌, ◌<◌, ◌∷◌, ℕ, Bool, true, false, ◌&&◌, if◌then◌else◌, nat_le}
+use Rattle.std.specs.Prelude.{◌≡◌, ◌≢◌, ◌≤◌, ◌<◌, ◌∷◌, ℕ, Bool, true, false, ◌&&◌, if◌then◌else◌}
+use Rattle.std.specs.Prelude.{nat_le}
 use Rattle.std.specs.Prelude.{List, length, take, Option, Some, None, is_some, slice_get, slice_set}
 use Rattle.std.specs.Prelude.{IfSome, []}
 use Rattle.guest_memory.specs.Memory.{bytes_at}
@@ -25,7 +26,7 @@ use Rattle.board.specs.State.{BoardState, owes}
 use Rattle.board.specs.Telling.{telling}
 use Rattle.board.specs.Moving.{Moves}
 use Rattle.machine.specs.Ending.{AsksIn, HasReason, IsBusy, RestsAt}
-use Rattle.machine.specs.Serving.{Boards, Hears, OthersStay, Runs, standing}
+use Rattle.machine.specs.Serving.{Boards, FailsNone, Hears, OthersStay, Runs, standing}
 use Rattle.machine.specs.Settings.{device_after, most_of, value_shown, value_taken}
 use Rattle.machine.specs.Turn.{Stand, TurnState, fresh_turn, stand_of}
 use Rattle.machine.specs.declared.fault.MachineFault.{MachineFault}
@@ -104,9 +105,11 @@ abbrev pub turn_of : MachineState → ℕ → TurnState
 turn_of m guest = turn_in (slice_get m.turns guest)
 
 -- A guest was served: at each moment a stop leaves, of every guest, the partition after a prefix of
--- its accepted requests, with all that was settled before; and of every other guest all stays.
+-- its accepted requests, with all that was settled before. No call of the disk fails by itself, and
+-- of every other guest all stays.
 pub record IsServed (guest : ℕ) (old new : MachineState) : Type 0 where
   pub moves : Moves outbox_state OutboxMakes (board_of old.board) (board_of new.board)
+  pub whole : FailsNone old.board.rest new.board.rest
   pub others : OthersStay guest (board_of old.board) (board_of new.board)
   pub turns : (k : ℕ) → k ≢ guest → slice_get new.turns k ≡ slice_get old.turns k
   pub setups : new.setups ≡ old.setups
@@ -202,6 +205,7 @@ IsTold (next.Rest f) s = (s.what ≡ what.Rest) × (s.fault ≡ f)
 -- the disk's work went further, by steps of its own and of each guest's
 pub record GoesOn (old new : MachineState) : Type 0 where
   pub moves : Moves outbox_state OutboxMakes (board_of old.board) (board_of new.board)
+  pub whole : FailsNone old.board.rest new.board.rest
   pub devices : new.board.devices ≡ old.board.devices
   pub jobs : new.board.rest.jobs ≡ old.board.rest.jobs
   pub turns : new.turns ≡ old.turns

@@ -1,5 +1,6 @@
 -- A guest's device that is saved at rest, and goes on; and the place at which its queue stands.
-use Rattle.std.specs.Prelude.{◌≡◌, ℕ, ◌==◌, ◌&&◌, ◌%◌, Bool, true, false, List, length, Option, Some}
+use Rattle.std.specs.Prelude.{◌≡◌, ℕ, ◌==◌, ◌&&◌, ◌%◌, Bool, true, false, List, length, Option}
+use Rattle.std.specs.Prelude.{Some}
 use Rattle.std.specs.Prelude.{None, slice_get}
 use Rattle.mmio_transport.specs.Asking.{AskingState}
 use Rattle.mmio_transport.specs.Resting.{IsSaved, MayGoOn, at_place, going_on, is_at_rest}

@@ -1,8 +1,12 @@
 -- What serving a guest does to a board, in steps, and what it leaves of the other guests.
-use Rattle.std.specs.Prelude.{◌≡◌, ◌≢◌, ◌⊎◌, ℕ, Bool, List, [], slice_get}
+use Rattle.std.specs.Prelude.{◌≡◌, ◌≢◌, ◌⊎◌, ◌<◌, ◌^◌, ◌-◌, ℕ, Bool, List, [], slice_get}
 use Rattle.std.specs.Prelude.{slice_set, Some, None, Ok, true, false, IfSome, map, length, ◌++◌}
 use Rattle.chains.specs.declared.range.Range.{Range}
+use Rattle.disk.specs.Outbox.{has_room}
 use Rattle.disk.specs.OutboxDisk.{OutboxMakes, OutboxState, outbox_state}
+use Rattle.flusher.specs.Store.{next_call}
+use Rattle.flusher.specs.declared.progress.Call.{Call}
+use Rattle.flusher.specs.declared.progress.Call.TheVariants as call
 use Rattle.mmio_transport.specs.Asking.{AskingState, Notifies, after_told, known}
 use Rattle.mmio_transport.specs.Popping.{with_fault}
 use Rattle.mmio_transport.specs.Written.{queue_parts}
@@ -42,17 +46,28 @@ IsNoted guest parts b = IfSome (in_place (slice_get b.rest.dones guest)) (λ don
     IfSome (slice_get (map (λ a. a.device.queue) b.devices) guest) (λ queue.
     parts ≡ filled_parts done.writable (length done.reply) ++ queue_parts queue))
 
--- a step of this guest, or of all guests, that no device makes
-abbrev pub IsShare : ℕ → Step → Type 0
-IsShare guest (step.Drive g act) = ⊥
-IsShare guest (step.Pop g) = ⊥
-IsShare guest (step.Submit g) = g ≡ guest
-IsShare guest (step.Collect g) = g ≡ guest
-IsShare guest (step.Publish g) = ⊥
-IsShare guest (step.Take g) = g ≡ guest
-IsShare guest (step.Give g) = g ≡ guest
-IsShare guest step.Advance = Unit {0}
-IsShare guest step.Settle = Unit {0}
+abbrev pub is_write : Call → Bool
+is_write call.Write = true
+is_write call.Sync = false
+is_write call.None = false
+
+-- a write comes next, and the disk has room for the largest, which has 16,648 bytes
+pub record MayWrite (b : BoardState OutboxState) : Type 0 where
+  pub write : is_write (next_call b.store.broken b.store.guests) ≡ true
+  pub room : has_room 16648 b.store.disk.outbox ≡ true
+
+-- A step of this guest, or of all guests, that no device makes. A call of the disk is a write, for
+-- which there is room.
+abbrev pub IsShare : ℕ → Step → Boards → Type 0
+IsShare guest (step.Drive g act) b = ⊥
+IsShare guest (step.Pop g) b = ⊥
+IsShare guest (step.Submit g) b = g ≡ guest
+IsShare guest (step.Collect g) b = g ≡ guest
+IsShare guest (step.Publish g) b = ⊥
+IsShare guest (step.Take g) b = g ≡ guest
+IsShare guest (step.Give g) b = g ≡ guest
+IsShare guest step.Advance b = MayWrite b.rest
+IsShare guest step.Settle b = Unit {0}
 
 -- What a device learns of its guest's memory, or does by itself: bytes were told; all copies are
 -- forgotten, which begins a step of it; or in such a step, which is over then, it saw that its
@@ -125,12 +140,14 @@ owing parts = record { parts = parts; going = false; owed = true }
 pub data Runs (guest : ℕ) : Stand → Boards → Stand → Boards → Type 0 where
   Still : (s : Stand) (b : Boards) → Runs guest s b s b
   Then : (s t : Stand) (a b c : Boards) (x : Step) (answer : Answer)
-      → Runs guest s a t b → IsShare guest x → Makes x answer b c → Runs guest s a t c
+      → Runs guest s a t b → IsShare guest x b → Makes x answer b c → Runs guest s a t c
   -- the device steps only once all that it wrote before is in guest memory
   Pops : (s : Stand) (qs : List Range) (a b c : Boards) (answer : Answer)
-      → Runs guest s a (standing [] true) b → PopsOne guest answer b qs c → Runs guest s a (standing qs false) c
+      → Runs guest s a (standing [] true) b → PopsOne guest answer b qs c
+      → Runs guest s a (standing qs false) c
   Hands : (s : Stand) (qs : List Range) (a b c : Boards)
-      → Runs guest s a (standing [] true) b → HandsOne guest b qs c → Runs guest s a (standing qs false) c
+      → Runs guest s a (standing [] true) b → HandsOne guest b qs c
+      → Runs guest s a (standing qs false) c
   LearnsOf : (s : Stand) (qs : List Range) (g h : Bool) (a b c : Boards)
       → (g ≡ false → h ≡ true → qs ≡ [])
       → Runs guest s a (standing qs g) b → Knows guest g b h c → Runs guest s a (standing qs h) c
@@ -150,7 +167,7 @@ pub data Runs (guest : ℕ) : Stand → Boards → Stand → Boards → Type 0 w
 -- where bytes were to be copied.
 pub data DoesSome (guest : ℕ) : Stand → Boards → Stand → Boards → Type 0 where
   ByStep : (s t u : Stand) (a b c d : Boards) (x : Step) (answer : Answer)
-      → Runs guest s a t b → IsShare guest x → Makes x answer b c → answer ≢ Ok Nothing
+      → Runs guest s a t b → IsShare guest x b → Makes x answer b c → answer ≢ Ok Nothing
       → Runs guest t c u d → DoesSome guest s a u d
   ByPop : (s u : Stand) (qs : List Range) (a b c d : Boards) (answer : Answer)
       → Runs guest s a (standing [] true) b → PopsOne guest answer b qs c → answer ≢ Ok Nothing
@@ -179,6 +196,12 @@ pub record Hears (old new : Boards) : Type 0 where
   pub hears : Makes step.Settle before old heard
   pub makes_it : Makes step.Advance call heard made
   pub hears_it : Makes step.Settle behind made new
+
+-- No call of the disk fails, where none was told to fail and one failure more can be counted.
+abbrev pub FailsNone : BoardState OutboxState → BoardState OutboxState → Type 0
+FailsNone old new = old.store.disk.failed ≡ false → old.store.disk.failures < 2 ^ 64 - 1
+    → (new.store.disk.failed ≡ false) × (new.store.disk.failures ≡ old.store.disk.failures)
+    × (new.store.broken ≡ old.store.broken)
 
 -- the jobs stay, and as many chains of the guest wait for their answers
 abbrev pub KeepsWaiting : ℕ → BoardState OutboxState → BoardState OutboxState → Type 0

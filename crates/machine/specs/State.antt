@@ -1,7 +1,8 @@
 -- The state of a guest's device as words of 32 bits (own): three that say what it is, ten of the
 -- guest that it is of, its registers, and where its queue rests.
 use Rattle.std.specs.Prelude.{ℕ, ◌+◌, ◌*◌, ◌/◌, ◌%◌, ◌==◌, ◌&&◌, not, Bool, if◌then◌else◌, List}
-use Rattle.std.specs.Prelude.{length, Option, Some, None, slice_get, [], ◌∷◌, ◌++◌, false, unwrap_or}
+use Rattle.std.specs.Prelude.{length, Option, Some, None, slice_get, [], ◌∷◌, ◌++◌, false}
+use Rattle.std.specs.Prelude.{unwrap_or}
 use Rattle.rpmb_frame.specs.declared.config.RingKind.{RingKind}
 use Rattle.rpmb_frame.specs.declared.config.RingKind.TheVariants.{Split, Packed}
 use Rattle.chains.specs.declared.places.Places.{Places}

@@ -2,8 +2,8 @@
 ghost use Rattle.std.specs.Prelude.{◌≡◌, ℕ, List, true, false};
 ghost use Rattle.board.specs.Asking.{board_of};
 ghost use Rattle.flusher.specs.Store.{next_call};
-ghost use Rattle.machine.specs.Ending.{HasRoomForNone, IsHandedOn, is_write};
-ghost use Rattle.machine.specs.Serving.{DoesSome, Hears, KeepsWaiting, Runs};
+ghost use Rattle.machine.specs.Ending.{HasRoomForNone, IsHandedOn};
+ghost use Rattle.machine.specs.Serving.{DoesSome, Hears, KeepsWaiting, Runs, is_write};
 ghost use Rattle.machine.specs.Turn.{Stand};
 
 use board::AskingBoard;
@@ -82,7 +82,6 @@ pub(crate) fn hand_all(board: &mut AskingBoard<OutboxDisk>, guest: u16) -> bool
 
 /// Makes the call that comes next, and tells the book what came of it.
 pub(crate) fn go_on(board: &mut AskingBoard<OutboxDisk>)
-    ensures runs { (guest : ℕ) (s : Stand) → Runs guest s board.old s board.new }
     ensures hears { Hears board.old board.new }
     ensures devices { board.new.devices ≡ board.old.devices }
 {

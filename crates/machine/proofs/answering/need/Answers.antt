@@ -45,11 +45,14 @@ pub returns-then-wanted-clause-same : goal.returns-then-wanted-clause-same
 returns-then-wanted-clause-same c =
     let t = c.args.turn.now in
     let b = c.args.board.now in
-    inr (refl, subst (λ n. DoesSome c.args.guest (left_by (Some n) t) b (stand_of c.refuse.new.turn)
-    c.refuse.new.board) (sym c.in-Read.is)
-    (subst (λ rs. DoesSome c.args.guest (stand_of t) b rs c.refuse.new.board)
-    (sym (ap stand_of c.refuse.ensures.turn))
-    (stops c.args.guest t.parts t.going b c.refuse.new.board c.refuse.ensures.refuses)))
+    inr (
+      refl,
+      subst (λ n. DoesSome c.args.guest (left_by (Some n) t) b (stand_of c.refuse.new.turn)
+          c.refuse.new.board) (sym c.in-Read.is)
+          (subst (λ rs. DoesSome c.args.guest (stand_of t) b rs c.refuse.new.board)
+          (sym (ap stand_of c.refuse.ensures.turn))
+          (stops c.args.guest t.parts t.going b c.refuse.new.board c.refuse.ensures.refuses)),
+    )
 
 pub returns-then-not-copy_part-clause-same : goal.returns-then-not-copy_part-clause-same
 returns-then-not-copy_part-clause-same c =
@@ -57,11 +60,14 @@ returns-then-not-copy_part-clause-same c =
     let b = c.args.board.now in
     let refused = c.refuse-then-not-copy_part in
     let ps = c.in-Write.part ∷ t.parts in
-    inr (refl, subst (λ n. DoesSome c.args.guest (left_by (Some n) t) b
-    (stand_of refused.new.turn) refused.new.board) (sym c.in-Write.is)
-    (subst (λ rs. DoesSome c.args.guest (standing ps t.going) b rs refused.new.board)
-    (sym (ap stand_of refused.ensures.turn))
-    (stops c.args.guest ps t.going b refused.new.board refused.ensures.refuses)))
+    inr (
+      refl,
+      subst (λ n. DoesSome c.args.guest (left_by (Some n) t) b
+          (stand_of refused.new.turn) refused.new.board) (sym c.in-Write.is)
+          (subst (λ rs. DoesSome c.args.guest (standing ps t.going) b rs refused.new.board)
+          (sym (ap stand_of refused.ensures.turn))
+          (stops c.args.guest ps t.going b refused.new.board refused.ensures.refuses)),
+    )
 
 pub returns-then-not-copy_part-clause-runs : goal.returns-then-not-copy_part-clause-runs
 returns-then-not-copy_part-clause-runs c =

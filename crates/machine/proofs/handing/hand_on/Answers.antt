@@ -1,9 +1,10 @@
-use Rattle.std.proofs.Common.{◌≡◌, refl, Bool, false, true, ℕ}
+use Rattle.std.proofs.Common.{subst, ◌≡◌, refl, Bool, false, true, ℕ}
 use Rattle.std.specs.Prelude.{◌||◌}
 use Rattle.machine.proofs.Common.{Boards, IsShare, Makes, Runs, Stand, Step}
 use Rattle.board.specs.Steps.{did_answer}
 use Rattle.board.specs.declared.step.Step.TheVariants as step
 use Rattle.machine.specs.Serving.{DoesSome}
+use Rattle.machine.proofs.Handed.{handed_on}
 use Rattle.machine.proofs.Runs.{does_step, does_then, runs_step, runs_twice, then_does}
 use Rattle.machine.proofs.Waiting.{gave_waits, settled_waits, took_waits, waits_twice}
 use Rattle.machine.proofs.handing.hand_on.Goals as goal
@@ -41,7 +42,7 @@ module _ (g : ℕ) (s : Stand) (a b d e f : Boards) (first : Runs g s a s b) (se
   by_one false false false true one two three four is = by_fourth (four refl)
   by_one false false false false one two three four is = absurd (let no = is in cc)
 
-did_some : (g : ℕ) (s : Stand) (a b : Boards) (x : Step) (did : Bool) → IsShare g x
+did_some : (g : ℕ) (s : Stand) (a b : Boards) (x : Step) (did : Bool) → IsShare g x a
     → Makes x (did_answer did) a b → did ≡ true → DoesSome g s a s b
 did_some g s a b x true share makes is =
     does_step g s a b x (did_answer true) share makes (λ same. absurd (let no = same in cc))
@@ -67,8 +68,8 @@ returns-clause-did c some s =
     let b = c.settle-told.new.self in
     let d = c.take-taken.new.self in
     let e = c.give-given.new.self in
-    let share : IsShare g (step.Take g) = refl in
-    let share' : IsShare g (step.Give g) = refl in
+    let share : IsShare g (step.Take g) b = refl in
+    let share' : IsShare g (step.Give g) d = refl in
     by_one g s a b d e c.write_next-written.new.board
     (runs_step g s a b step.Settle _ tt c.settle-told.ensures.steps)
     (runs_step g s b d (step.Take g) _ share c.take-taken.ensures.steps)
@@ -94,3 +95,27 @@ returns-clause-keeps c =
     (took_waits g _ b d g c.take-taken.ensures.steps))
     (gave_waits g _ d e g c.give-given.ensures.steps))
     (c.write_next-written.ensures.keeps g)
+
+none_did : (told taken given written : Bool)
+    → (told || taken || given || written) ≡ false
+    → (told ≡ false) × (taken ≡ false) × (given ≡ false) × (written ≡ false)
+none_did true taken given written is = absurd (let no = is in cc)
+none_did false true given written is = absurd (let no = is in cc)
+none_did false false true written is = absurd (let no = is in cc)
+none_did false false false true is = absurd (let no = is in cc)
+none_did false false false false is = (refl, refl, refl, refl)
+
+pub returns-clause-done : goal.returns-clause-done
+returns-clause-done c nothing =
+    let g = c.args.guest in
+    let a = c.args.board.now in
+    let b = c.settle-told.new.self in
+    let d = c.take-taken.new.self in
+    let e = c.give-given.new.self in
+    let none = none_did c.settle-told.result c.take-taken.result c.give-given.result
+    c.write_next-written.result (let is = nothing in cc) in
+    handed_on g a b d e c.write_next-written.new.board
+    (subst (λ did. Makes step.Settle (did_answer did) a b) none.0 c.settle-told.ensures.steps)
+    (subst (λ did. Makes (step.Take g) (did_answer did) b d) none.1 c.take-taken.ensures.steps)
+    (subst (λ did. Makes (step.Give g) (did_answer did) d e) none.2 c.give-given.ensures.steps)
+    (c.write_next-written.ensures.none none.3)

@@ -1,5 +1,6 @@
-use Rattle.std.proofs.Common.{◌∙◌, Ok, ap, refl, subst, sym}
-use Rattle.machine.proofs.Common.{Makes, Still}
+use Rattle.std.proofs.Common.{◌≡◌, ◌∙◌, Bool, Ok, ap, refl, subst, sym}
+use Rattle.machine.proofs.Common.{BoardState, Makes, OutboxState, Still}
+use Rattle.disk.specs.Outbox.{has_room}
 use Rattle.board.specs.Steps.{answer_by}
 use Rattle.board.specs.declared.step.Step.TheVariants as step
 use Rattle.board.specs.declared.step.StepFault.TheVariants as fault
@@ -8,14 +9,22 @@ use Rattle.machine.proofs.Runs.{does_step, runs_step}
 use Rattle.machine.proofs.Waiting.{advanced_waits}
 use Rattle.machine.proofs.handing.write_next.Goals as goal
 
+room_of : (b c : BoardState OutboxState) (d : OutboxState) (v : Bool) → c ≡ b → d ≡ c.store.disk
+    → has_room 16648 d.outbox ≡ v → has_room 16648 b.store.disk.outbox ≡ v
+room_of b c d v same disk room = ap (λ r. has_room 16648 r.store.disk.outbox) (sym same)
+    ∙ ap (λ o. has_room 16648 o.outbox) (sym disk) ∙ room
+
 pub returns-then-not-has_write : goal.returns-then-not-has_write
 returns-then-not-has_write c = record {
   runs = λ guest s. Still s c.args.board.now;
   keeps = λ guest. (refl, refl);
   devices = refl;
   made = λ no guest s. absurd (let yes = no in cc);
-  none = λ no report. (refl, λ write. absurd (let a = write in let b = c.has_write.ensures in
-      let d = c.if-not-has_write.true in cc));
+  none = λ no report. (
+    refl,
+    λ write. absurd (let a = write in let b = c.has_write.ensures in
+        let d = c.if-not-has_write.true in cc),
+  );
 }
 
 pub returns-then-not-has_room : goal.returns-then-not-has_room
@@ -24,13 +33,22 @@ returns-then-not-has_room c = record {
   keeps = λ guest. (refl, refl);
   devices = refl;
   made = λ no guest s. absurd (let yes = no in cc);
-  none = λ no report. (refl, λ write. (let a = c.has_room.ensures in let b = c.if-not-has_room.true in
-      cc));
+  none = λ no report. (
+    refl,
+    λ write. room_of c.args.board.now.rest c.rest.result.now
+        c.disk.result.now _ c.rest.ensures c.disk.ensures
+        (sym c.has_room.ensures ∙ c.if-not-has_room.true),
+  );
 }
 
 pub returns-in-Ok-clause-runs : goal.returns-in-Ok-clause-runs
 returns-in-Ok-clause-runs c guest s =
-    runs_step guest s c.args.board.now c.advance.new.self step.Advance _ tt
+    runs_step guest s c.args.board.now c.advance.new.self step.Advance _
+    (record {
+      write = sym c.has_write.ensures ∙ c.if-not-has_write.false;
+      room = room_of c.args.board.now.rest c.rest.result.now c.disk.result.now _
+          c.rest.ensures c.disk.ensures (sym c.has_room.ensures ∙ c.if-not-has_room.false);
+    })
     c.advance.ensures.steps
 
 pub returns-in-Ok-clause-made : goal.returns-in-Ok-clause-made
@@ -38,12 +56,22 @@ returns-in-Ok-clause-made c made guest s =
     let b = c.args.board.now in
     let makes = subst (λ r. Makes step.Advance (answer_by fault.Store r) b c.advance.new.self)
     (c.in-Ok.is ∙ ap (λ did. Ok did) made) c.advance.ensures.steps in
-    does_step guest s b c.advance.new.self step.Advance _ tt makes
+    does_step guest s b c.advance.new.self step.Advance _
+    (record {
+      write = sym c.has_write.ensures ∙ c.if-not-has_write.false;
+      room = room_of c.args.board.now.rest c.rest.result.now c.disk.result.now _
+          c.rest.ensures c.disk.ensures (sym c.has_room.ensures ∙ c.if-not-has_room.false);
+    }) makes
     (λ same. absurd (let no = same in cc))
 
 pub returns-in-Err-clause-runs : goal.returns-in-Err-clause-runs
 returns-in-Err-clause-runs c guest s =
-    runs_step guest s c.args.board.now c.advance.new.self step.Advance _ tt
+    runs_step guest s c.args.board.now c.advance.new.self step.Advance _
+    (record {
+      write = sym c.has_write.ensures ∙ c.if-not-has_write.false;
+      room = room_of c.args.board.now.rest c.rest.result.now c.disk.result.now _
+          c.rest.ensures c.disk.ensures (sym c.has_room.ensures ∙ c.if-not-has_room.false);
+    })
     c.advance.ensures.steps
 
 pub returns-in-Err-clause-made : goal.returns-in-Err-clause-made
@@ -51,7 +79,12 @@ returns-in-Err-clause-made c made guest s =
     let b = c.args.board.now in
     let makes = subst (λ r. Makes step.Advance (answer_by fault.Store r) b c.advance.new.self)
     c.in-Err.is c.advance.ensures.steps in
-    does_step guest s b c.advance.new.self step.Advance _ tt makes
+    does_step guest s b c.advance.new.self step.Advance _
+    (record {
+      write = sym c.has_write.ensures ∙ c.if-not-has_write.false;
+      room = room_of c.args.board.now.rest c.rest.result.now c.disk.result.now _
+          c.rest.ensures c.disk.ensures (sym c.has_room.ensures ∙ c.if-not-has_room.false);
+    }) makes
     (λ same. absurd (let no = same in cc))
 
 pub returns-in-Ok-clause-none : goal.returns-in-Ok-clause-none

@@ -2,8 +2,8 @@ use Rattle.std.proofs.Common.{[], inr, refl, ap, sym, subst, ◌∙◌, true, fa
 use Rattle.flusher.specs.Store.{next_call}
 use Rattle.machine.proofs.Common.{Runs, Still, stand_of, standing}
 use Rattle.board.specs.State.{waiting}
-use Rattle.machine.specs.Ending.{IsHandedOn, is_write}
-use Rattle.machine.specs.Serving.{HasNoReply}
+use Rattle.machine.specs.Ending.{IsHandedOn}
+use Rattle.machine.specs.Serving.{HasNoReply, is_write}
 use Rattle.machine.proofs.Popping.{gives_up}
 use Rattle.machine.proofs.Runs.{runs_twice}
 use Rattle.machine.proofs.Goings.{ended_same, rest_needs, went_by}

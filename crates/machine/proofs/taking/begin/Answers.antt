@@ -1,4 +1,5 @@
-use Rattle.std.proofs.Common.{◌≡◌, ◌∙◌, if◌then◌else◌, [], true, false, refl, sym, subst, ap, IfSome}
+use Rattle.std.proofs.Common.{◌≡◌, ◌∙◌, if◌then◌else◌, [], true, false, refl, sym, subst, ap}
+use Rattle.std.proofs.Common.{IfSome}
 use Rattle.machine.proofs.Common.{AskingState, Runs, Still, standing}
 use Rattle.guest_memory.specs.Memory.{kept}
 use Rattle.mmio_transport.specs.Asking.{known}

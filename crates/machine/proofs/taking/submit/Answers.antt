@@ -1,6 +1,7 @@
 use Rattle.std.proofs.Common.{◌≡◌, ◌<◌, inl, inr, refl, sym, subst, ℕ, Option, None, Some}
 use Rattle.std.proofs.Common.{Ok, IsSome, length, arith}
-use Rattle.machine.proofs.Common.{slice_get, Answer, Boards, IsSound, Job, Makes, SubmitsFrom, Tally}
+use Rattle.machine.proofs.Common.{slice_get, Answer, Boards, IsSound, Job, Makes, SubmitsFrom}
+use Rattle.machine.proofs.Common.{Tally}
 use Rattle.machine.proofs.Common.{OutboxState, board_of, in_place, outbox_state, AskingState}
 use Rattle.board.proofs.Common.{length-map}
 use Rattle.board.specs.Steps.{answer_by}

@@ -1,5 +1,5 @@
-use Rattle.std.proofs.Common.{[], false, refl, subst}
-use Rattle.machine.proofs.Common.{MachineState, standing}
+use Rattle.std.proofs.Common.{refl, subst}
+use Rattle.machine.proofs.Common.{MachineState}
 use Rattle.disk.specs.declared.outbox_disk.Told.TheVariants.{Failed, Synced}
 use Rattle.machine.specs.Machine.{Completes}
 use Rattle.machine.proofs.Completing.{completes}
@@ -16,8 +16,7 @@ returns-then-not-succeeded-clause-failed c not =
       subst (λ (x : MachineState). Completes Failed x (record m { board = c.go_on.new.board }))
           c.self.view_is
           (completes Failed m c.tell.new.self c.go_on.new.board c.tell.ensures
-          c.go_on.ensures.hears (standing [] false)
-          (c.go_on.ensures.runs 0 (standing [] false)) c.go_on.ensures.devices),
+          c.go_on.ensures.hears c.go_on.ensures.devices),
     )
 
 pub returns-clause-synced : goal.returns-clause-synced
@@ -31,6 +30,5 @@ returns-clause-synced c succeeded awaited =
       subst (λ (x : MachineState). Completes Synced x (record m { board = c.go_on-2.new.board }))
           c.self.view_is
           (completes Synced m c.tell-2.new.self c.go_on-2.new.board c.tell-2.ensures
-          c.go_on-2.ensures.hears (standing [] false)
-          (c.go_on-2.ensures.runs 0 (standing [] false)) c.go_on-2.ensures.devices),
+          c.go_on-2.ensures.hears c.go_on-2.ensures.devices),
     )

@@ -1,7 +1,10 @@
-use Rattle.std.proofs.Common.{[], false, ap, subst, ◌∙◌}
-use Rattle.machine.proofs.Common.{MachineState, Moves, OutboxMakes, board_of, moves_none, outbox_state}
+use Rattle.std.proofs.Common.{[], false, ap, refl, subst, ◌∙◌}
+use Rattle.machine.proofs.Common.{MachineState, Moves, OutboxMakes, board_of, moves_none}
+use Rattle.machine.proofs.Common.{outbox_state}
 use Rattle.machine.proofs.Common.{standing}
+use Rattle.machine.specs.Serving.{FailsNone}
 use Rattle.machine.proofs.Completing.{goes_more}
+use Rattle.machine.proofs.Whole.{runs_whole, whole_twice}
 use Rattle.machine.proofs.machine.Machine.go_on.Goals as goal
 
 pub loop-guest-init : goal.loop-guest-init
@@ -11,6 +14,8 @@ loop-guest-init c = (
       (moves_none outbox_state OutboxMakes (board_of c.self.inside.board)),
   ap (λ (m : MachineState). m.board.devices) c.self.view_is,
   ap (λ (m : MachineState). m.board.rest.jobs) c.self.view_is,
+  subst (λ (m : MachineState). FailsNone m.board.rest c.self.inside.board.rest) c.self.view_is
+      (λ failed few. (failed, refl, refl)),
   ap (λ (m : MachineState). m.setups) c.self.view_is,
   ap (λ (m : MachineState). m.turns) c.self.view_is,
 )
@@ -23,8 +28,11 @@ loop-guest-preserved c =
           (standing [] false) (h.ensures.runs (standing [] false)),
       h.ensures.devices ∙ l.invariant.1,
       h.ensures.keeps.0 ∙ l.invariant.2,
-      l.invariant.3,
+      whole_twice c.args.self.now.board.rest l.self-inside.board.rest h.new.board.rest l.invariant.3
+          (runs_whole _ (standing [] false) (standing [] false) l.self-inside.board h.new.board
+          (h.ensures.runs (standing [] false))),
       l.invariant.4,
+      l.invariant.5,
     )
 
 pub returns-clause-goes : goal.returns-clause-goes
@@ -32,8 +40,9 @@ returns-clause-goes c =
     let l = c.loop-guest in
     record {
       moves = l.invariant.0;
+      whole = l.invariant.3;
       devices = l.invariant.1;
       jobs = l.invariant.2;
-      turns = l.invariant.4;
-      setups = l.invariant.3;
+      turns = l.invariant.5;
+      setups = l.invariant.4;
     }

@@ -6,8 +6,11 @@ use Rattle.machine.specs.declared.serving.Next.TheVariants as next
 use Rattle.machine.specs.Machine.{IsTold, TellsOf, has_guest, left_of, turn_in, turn_of}
 use Rattle.machine.proofs.Completing.{hears, serves, serves_none}
 use Rattle.machine.proofs.Popping.{some_at}
-use Rattle.machine.proofs.Told.{has_all, no_device, no_setup, no_turn, tells_absent, tells_of, tells_room}
-use Rattle.machine.proofs.machine.Machine.serve.Goals.{then-at-len-via-then-at-len, then-at-len-via-else-at-len+then-at-len-2, then-at-len-via-else-at-len+else-at-len-2+then-at-guests}
+use Rattle.machine.proofs.Told.{has_all, no_device, no_setup, no_turn, tells_absent, tells_of}
+use Rattle.machine.proofs.Told.{tells_room}
+use Rattle.machine.proofs.machine.Machine.serve.Goals.{then-at-len-via-then-at-len}
+use Rattle.machine.proofs.machine.Machine.serve.Goals.{then-at-len-via-else-at-len+then-at-len-2}
+use Rattle.machine.proofs.machine.Machine.serve.Goals.{then-at-len-via-else-at-len+else-at-len-2+then-at-guests}
 use Rattle.machine.proofs.machine.Machine.serve.Goals as goal
 
 pub returns-then-at-len-clause-served : goal.returns-then-at-len-clause-served
