@@ -2,12 +2,12 @@
 //! and a Collect for each request. Beside it stands what it does with no lock held: the MACs, and
 //! the memory of the answers. Neither waits for the lock nor what the flusher does under it is here.
 use crate::batches::{Subject, time_kind};
-use crate::clock::{Extent, NO_MEMORY, Stop, Times, Took, now, plus, print_row, since};
-use crate::images::{board_of, new_disk, opened_board};
+use crate::clock::{Extent, NO_MEMORY, Row, Stop, Times, Took, now, plus, print_row, since};
+use crate::images::{new_image, opened_board};
 use crate::requests::{KEY, Kind, mixed};
 use board::Parts;
 use chains::Range;
-use disk::MemDisk;
+use disk::Disk;
 use flusher::Made;
 use hmac256::MacKey;
 use mmio_transport::Job;
@@ -15,7 +15,6 @@ use rpmb_book::{Checked, Due, Rooms};
 use rpmb_frame::{BoardConfig, Limits, RingKind};
 use std::alloc::Global;
 use std::collections::VecDeque;
-use workers::parts_of;
 
 /// More calls than any store has before it.
 const CALLS: u32 = 1_000_000;
@@ -33,7 +32,7 @@ trait Desk: Drop {
     fn advance(&mut self) -> Result<bool, Stop>;
 }
 
-fn hand_over(parts: &mut Parts<MemDisk>) -> Result<(), Stop> {
+fn hand_over<D: Disk>(parts: &mut Parts<D>) -> Result<(), Stop> {
     if !parts.store.is_free(0) {
         return Ok(());
     }
@@ -47,7 +46,7 @@ fn hand_over(parts: &mut Parts<MemDisk>) -> Result<(), Stop> {
     }
 }
 
-fn next_call(parts: &mut Parts<MemDisk>) -> Result<bool, Stop> {
+fn next_call<D: Disk>(parts: &mut Parts<D>) -> Result<bool, Stop> {
     match parts.store.advance() {
         Ok(Made::Idle) => Ok(false),
         Ok(Made::Wrote) => Ok(true),
@@ -59,7 +58,7 @@ fn next_call(parts: &mut Parts<MemDisk>) -> Result<bool, Stop> {
     }
 }
 
-impl Desk for Parts<MemDisk> {
+impl<D: Disk + Drop> Desk for Parts<D> {
     fn submit(&mut self, alloc: Global, job: Checked) -> Result<Rooms, Stop> {
         match self.tallies.get_mut(0) {
             Some(tally) => match self.book.submit_checked(alloc, tally, job) {
@@ -99,20 +98,11 @@ struct Books<D: Desk> {
     desk: D,
     limits: Limits,
     key: MacKey,
-    jobs: VecDeque<Job>,
-    prepared: VecDeque<Checked>,
+    jobs: VecDeque<Checked>,
     /// Memory that answers have left, for the next ones.
     spare: Vec<Rooms>,
     dues: VecDeque<Due>,
     sum: u32,
-}
-
-/// The limits of the guest.
-fn limits_of(config: &BoardConfig) -> Result<Limits, Stop> {
-    match config.guests().first() {
-        Some(guest) => Ok(Limits::of(guest)),
-        None => Err("no guest"),
-    }
 }
 
 fn books_of<D: Desk>(alloc: Global, desk: D, limits: Limits) -> Books<D> {
@@ -122,7 +112,6 @@ fn books_of<D: Desk>(alloc: Global, desk: D, limits: Limits) -> Books<D> {
         limits,
         key: MacKey::new(&KEY),
         jobs: VecDeque::new(alloc),
-        prepared: VecDeque::new(alloc),
         spare: Vec::new(alloc),
         dues: VecDeque::new(alloc),
         sum: 0,
@@ -132,41 +121,35 @@ fn books_of<D: Desk>(alloc: Global, desk: D, limits: Limits) -> Books<D> {
 /// The job of a request, with room for its reply, which no device gave.
 fn job_of(alloc: Global, kind: Kind, counter: u32) -> Result<Job, Stop> {
     let mut request = Vec::new(alloc);
-    kind.put(&mut request, counter)?;
+    let put = kind.put(&mut request, counter);
     let room = Range {
         at: 0,
         len: kind.writable(),
     };
     match Vec::from_slice(alloc, &[room]) {
-        Ok(writable) => Ok(Job::of(alloc, 0, 1, 0, 1, writable, request)),
-        Err(_) => Err(NO_MEMORY),
+        Ok(writable) if put.is_ok() => Ok(Job::of(alloc, 0, 1, 0, 1, writable, request)),
+        _ => Err(NO_MEMORY),
     }
 }
 
 impl<D: Desk> Books<D> {
-    /// Makes of a job what can be made before the book has it.
-    fn checked(&mut self, job: Job) -> Checked {
-        let mut checked = Checked::plain(self.alloc, job);
+    /// Makes of the job of this number what can be made before the book has it.
+    fn prepare(&mut self, number: usize) -> Result<(), Stop> {
         let spare = match self.spare.pop() {
             Some(rooms) => rooms,
             None => Rooms::none(self.alloc),
         };
-        checked.prepare(self.alloc, self.limits, Some(&self.key), spare);
-        checked
-    }
-
-    fn prepare(&mut self) -> Result<(), Stop> {
-        match self.jobs.pop_front() {
+        match self.jobs.get_mut(number) {
             Some(job) => {
-                let checked = self.checked(job);
-                self.prepared.push_back(checked).ok().ok_or(NO_MEMORY)
+                job.prepare(self.alloc, self.limits, Some(&self.key), spare);
+                Ok(())
             }
             None => Err("no job"),
         }
     }
 
     fn submit(&mut self) -> Result<(), Stop> {
-        match self.prepared.pop_front() {
+        match self.jobs.pop_front() {
             Some(job) => match self.desk.submit(self.alloc, job) {
                 Ok(rooms) => self.spare.push(rooms).ok().ok_or(NO_MEMORY),
                 Err(stop) => Err(stop),
@@ -184,19 +167,18 @@ impl<D: Desk> Books<D> {
 
     /// Makes the MAC of a reply, mixes it, and lets it go.
     fn publish(&mut self, kind: Kind) -> Result<(), Stop> {
-        match self.dues.pop_front() {
-            Some(due) => {
-                let done = due.done(Some(&self.key));
-                self.sum = mixed(kind, done.reply(), self.sum)?;
-                Ok(())
-            }
-            None => Err("no reply"),
-        }
+        let Some(due) = self.dues.pop_front() else {
+            return Err("no reply");
+        };
+        let mixed = mixed(kind, due.done(Some(&self.key)).reply(), self.sum);
+        self.sum = mixed.unwrap_or(0);
+        mixed.and(Ok(()))
     }
 
-    fn step(&mut self, step: Step) -> Result<(), Stop> {
+    /// Takes a step of the request of this number.
+    fn step(&mut self, step: Step, number: usize) -> Result<(), Stop> {
         match step {
-            Step::Prepare => self.prepare(),
+            Step::Prepare => self.prepare(number),
             Step::Submit => self.submit(),
             Step::Collect => self.collect(),
             Step::Publish(kind) => self.publish(kind),
@@ -207,8 +189,8 @@ impl<D: Desk> Books<D> {
     fn time_steps(&mut self, rt: &HostRuntime, step: Step, count: usize) -> Took {
         let start = now(rt);
         let mut all = Ok(());
-        for _ in 0..count {
-            all = all.and(self.step(step));
+        for number in 0..count {
+            all = all.and(self.step(step, number));
         }
         all.and(since(rt, start))
     }
@@ -229,7 +211,10 @@ impl<D: Desk> Books<D> {
 impl<D: Desk> Subject for Books<D> {
     fn offer(&mut self, kind: Kind, counter: u32) -> Result<(), Stop> {
         match job_of(self.alloc, kind, counter) {
-            Ok(job) => self.jobs.push_back(job).ok().ok_or(NO_MEMORY),
+            Ok(job) => {
+                let job = Checked::plain(self.alloc, job);
+                self.jobs.push_back(job).ok().ok_or(NO_MEMORY)
+            }
             Err(stop) => Err(stop),
         }
     }
@@ -252,19 +237,60 @@ impl<D: Desk> Subject for Books<D> {
     }
 }
 
+/// The limits of the guest.
+fn limits_of(config: &BoardConfig) -> Result<Limits, Stop> {
+    match config.guests().first() {
+        Some(guest) => Ok(Limits::of(guest)),
+        None => Err("no guest"),
+    }
+}
+
+/// A book and its store over an image, of which nothing was asked yet, and the guest's limits.
+fn parts_on<D: Disk + Drop>(
+    alloc: Global,
+    disk: D,
+    config: &BoardConfig,
+) -> Result<(Parts<D>, Limits), Stop> {
+    let limits = limits_of(config)?;
+    match opened_board(alloc, disk, config) {
+        Ok(board) => Ok((board.into_parts(), limits)),
+        Err(stop) => Err(stop),
+    }
+}
+
+fn time_desk<D: Desk>(
+    rt: &HostRuntime,
+    extent: Extent,
+    (desk, limits): (D, Limits),
+    name: &'static str,
+    kind: Kind,
+) -> Row {
+    let mut books = books_of(rt.alloc(), desk, limits);
+    let names = (name, "what is done outside of the lock");
+    time_kind(rt, &mut books, kind, extent, names)
+}
+
+fn time_parts<D: Disk + Drop>(
+    rt: &HostRuntime,
+    extent: Extent,
+    (config, disk): (BoardConfig, D),
+    name: &'static str,
+    kind: Kind,
+) -> Result<Row, Stop> {
+    match parts_on(rt.alloc(), disk, &config) {
+        Ok(parts) => Ok(time_desk(rt, extent, parts, name, kind)),
+        Err(stop) => Err(stop),
+    }
+}
+
 fn time_locked(
     rt: &HostRuntime,
     extent: Extent,
     name: &'static str,
     kind: Kind,
 ) -> Result<(), Stop> {
-    let config = board_of(rt.alloc(), RingKind::Split)?;
-    let disk = new_disk(rt.alloc(), &config)?;
-    let board = opened_board(rt.alloc(), disk, &config)?;
-    let limits = limits_of(&config)?;
-    let mut books = books_of(rt.alloc(), parts_of(board, &config), limits);
-    let names = (name, "what is done outside of the lock");
-    let row = time_kind(rt, &mut books, kind, extent, names);
+    let image = new_image(rt.alloc(), RingKind::Split)?;
+    let row = time_parts(rt, extent, image, name, kind)?;
     print_row(rt, extent, &row)
 }
 

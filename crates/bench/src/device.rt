@@ -1,15 +1,13 @@
 //! Whole requests of one guest, each from its offer to its reap, beside the MACs that they need.
-ghost use Rattle.host.specs.Opening.{IsJustOpened};
-
 use crate::batches::{Subject, time_kind};
 use crate::clock::{Extent, NO_MEMORY, Row, Stop, Times, now, print_row, since};
-use crate::images::{board_of, new_disk, opened_board};
+use crate::images::{new_image, opened_board};
 use crate::macs::time_keyed;
 use crate::requests::{Kind, mixed};
-use board::Board;
 use disk::Disk;
 use host::{Answer, Host};
 use rpmb_frame::{BoardConfig, RingKind};
+use std::alloc::Global;
 
 /// The bytes of the longest request.
 const LONGEST: usize = 8704;
@@ -82,27 +80,43 @@ impl<C: Chains> Subject for Asked<C> {
     }
 }
 
-/// Brings the device into service, and takes what is asked to its end.
+/// A host over an image, with its device in service.
+fn host_on<D: Disk + Drop>(alloc: Global, disk: D, config: &BoardConfig) -> Result<Host<D>, Stop> {
+    match opened_board(alloc, disk, config) {
+        Ok(board) => match Host::new(alloc, board, config) {
+            Ok(host) => Ok(host),
+            Err(_) => Err(NO_MEMORY),
+        },
+        Err(stop) => Err(stop),
+    }
+}
+
+/// Takes what is asked to its end.
+fn time_chains<C: Chains>(
+    rt: &HostRuntime,
+    extent: Extent,
+    host: C,
+    name: &'static str,
+    kind: Kind,
+) -> Row {
+    let mut asked = Asked {
+        host,
+        requests: Vec::new(rt.alloc()),
+        sum: 0,
+    };
+    time_kind(rt, &mut asked, kind, extent, (name, "its MACs"))
+}
+
 fn time_host<D: Disk + Drop>(
     rt: &HostRuntime,
-    board: Board<D>,
-    config: &BoardConfig,
-    kind: Kind,
     extent: Extent,
-    names: (&'static str, &'static str),
-) -> Result<Row, Stop>
-    requires { IsJustOpened D.state config.now board }
-{
-    match Host::new(rt.alloc(), board, config) {
-        Ok(host) => {
-            let mut asked = Asked {
-                host,
-                requests: Vec::new(rt.alloc()),
-                sum: 0,
-            };
-            Ok(time_kind(rt, &mut asked, kind, extent, names))
-        }
-        Err(_) => Err(NO_MEMORY),
+    (config, disk): (BoardConfig, D),
+    name: &'static str,
+    kind: Kind,
+) -> Result<Row, Stop> {
+    match host_on(rt.alloc(), disk, &config) {
+        Ok(host) => Ok(time_chains(rt, extent, host, name, kind)),
+        Err(stop) => Err(stop),
     }
 }
 
@@ -113,10 +127,8 @@ fn time_ring(
     ring: RingKind,
     kind: Kind,
 ) -> Result<(), Stop> {
-    let config = board_of(rt.alloc(), ring)?;
-    let disk = new_disk(rt.alloc(), &config)?;
-    let board = opened_board(rt.alloc(), disk, &config)?;
-    let row = time_host(rt, board, &config, kind, extent, (name, "its MACs"))?;
+    let image = new_image(rt.alloc(), ring)?;
+    let row = time_host(rt, extent, image, name, kind)?;
     print_row(rt, extent, &row)
 }
 

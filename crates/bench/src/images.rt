@@ -14,7 +14,7 @@ use std::alloc::Global;
 const LIFE: u64 = 1;
 
 /// A board of one guest with a queue of this kind.
-pub fn board_of(alloc: Global, ring: RingKind) -> Result<BoardConfig, Stop> {
+fn board_of(alloc: Global, ring: RingKind) -> Result<BoardConfig, Stop> {
     let guest = GuestConfig {
         ring,
         ..GuestConfig::of_capacity(1)
@@ -42,10 +42,19 @@ fn make_image<D: Disk>(disk: &mut D, board: &BoardConfig) -> Result<(), Stop> {
 }
 
 /// A disk in memory with the fresh image of a board.
-pub fn new_disk(alloc: Global, board: &BoardConfig) -> Result<MemDisk, Stop> {
+fn new_disk(alloc: Global, board: &BoardConfig) -> Result<MemDisk, Stop> {
     let mut disk = blank_disk(alloc, board)?;
     match make_image(&mut disk, board) {
         Ok(()) => Ok(disk),
+        Err(stop) => Err(stop),
+    }
+}
+
+/// Such a board, and a disk in memory with its fresh image.
+pub fn new_image(alloc: Global, ring: RingKind) -> Result<(BoardConfig, MemDisk), Stop> {
+    let board = board_of(alloc, ring)?;
+    match new_disk(alloc, &board) {
+        Ok(disk) => Ok((board, disk)),
         Err(stop) => Err(stop),
     }
 }

@@ -77,12 +77,10 @@ impl Kind {
     /// Puts a request behind others: its frame, and the one that asks for its result.
     pub fn put(self, requests: &mut Vec<u8>, counter: u32) -> Result<(), Stop> {
         let frame = self.frame(counter);
-        requests.extend_from_slice(&frame).ok().ok_or(NO_MEMORY)?;
-        if self.length() > 512 {
-            let closing = Frame::zeros().with_req_resp(RESULT_READ).to_bytes();
-            requests.extend_from_slice(&closing).ok().ok_or(NO_MEMORY)?;
-        }
-        Ok(())
+        let closing = Frame::zeros().with_req_resp(RESULT_READ).to_bytes();
+        let is_put = requests.extend_from_slice(&frame).is_ok()
+            && (self.length() == 512 || requests.extend_from_slice(&closing).is_ok());
+        if is_put { Ok(()) } else { Err(NO_MEMORY) }
     }
 }
 
