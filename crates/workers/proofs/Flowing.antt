@@ -1,6 +1,6 @@
 -- Lines of jobs and of replies: two steps of one are one.
 use Rattle.std.proofs.Common.{◌≡◌, ℕ, zero, suc, ◌+◌, List, [], ◌∷◌, ◌++◌, length, sym, ap, ◌∙◌}
-use Rattle.std.proofs.Common.{arith, refl, Bool}
+use Rattle.std.proofs.Common.{arith, refl, Bool, true}
 use Rattle.std.proofs.Common.{Option, Some, None, Result, Ok, Err}
 use Rattle.std.specs.Prelude.{if◌then◌else◌, is_some, IfOk, slice_get}
 use Rattle.queue_looks.specs.declared.fault.HostFault.{HostFault}
@@ -31,6 +31,11 @@ flows_on a b c m n p q k l f g came went = record {
 pub flows_in : {A : Type 0} (a b c : List A) (m p k : ℕ) → Flows a m 0 b → Flows b p 0 c → k ≡ m + p
     → Flows a k 0 c
 flows_in a b c m p k f g came = flows_on a b c m 0 p 0 k 0 f g came (omega arith)
+
+-- one more came, if one did
+pub flows_one_more : {A : Type 0} (a b c : List A) (n : ℕ) (is : Bool) → is ≡ true → Flows a n 0 b
+    → Flows b (if is then 1 else 0) 0 c → Flows a (n + 1) 0 c
+flows_one_more a b c n is one f g = flows_in a b c n (if is then 1 else 0) (n + 1) f g (rw one refl)
 
 -- more went from its front
 pub flows_out : {A : Type 0} (a b c : List A) (n q l : ℕ) → Flows a 0 n b → Flows b 0 q c
@@ -136,6 +141,11 @@ pub flows_answered : (h : Handed) (a b c : List Job) (n : ℕ) → h ≡ Answere
     → Flows b 0 (answered_of h) c
     → Flows a 0 (n + 1) c
 flows_answered h a b c n is f g = flows_out a b c n (answered_of h) (n + 1) f g (rw is refl)
+
+-- none was
+pub flows_unanswered : (h : Handed) (a b c : List Job) (n : ℕ) → answered_of h ≡ 0 → Flows a 0 n b
+    → Flows b 0 (answered_of h) c → Flows a 0 n c
+flows_unanswered h a b c n none f g = flows_out a b c n (answered_of h) n f g (omega (arith, none))
 
 pub counts_answered : (h : Handed) (a b c n : ℕ) → h ≡ Answered → b ≡ a + n → c ≡ b + answered_of h
     → c ≡ a + (n + 1)

@@ -1,4 +1,4 @@
-use Rattle.std.proofs.Common.{refl, rules}
+use Rattle.std.proofs.Common.{refl, ◌∙◌}
 use Rattle.workers.proofs.Flowing.{flows_none, flows_out}
 use Rattle.workers.proofs.backlog.Backlog.publish_all.Goals as goal
 
@@ -6,8 +6,9 @@ pub loop-i-init : goal.loop-i-init
 loop-i-init g c = (refl, refl, flows_none _)
 
 pub loop-i-preserved : goal.loop-i-preserved
-loop-i-preserved g c = (
-  search rules,
-  search rules,
-  flows_out _ _ _ _ _ _ c.loop-i.invariant.2 c.if-not-publish.ensures.replies refl,
-)
+loop-i-preserved g c =
+    let was = c.loop-i.invariant in let e = c.if-not-publish.ensures in (
+      e.rest.0 ∙ was.0,
+      e.rest.1 ∙ was.1,
+      flows_out _ _ _ _ _ _ was.2 e.replies refl,
+    )
