@@ -2,9 +2,12 @@
 ghost use Rattle.disk.specs.FileDisk.{unknown_effect, unknown_file};
 
 use super::{read, write};
+use crate::tests::{Row, try_all};
 use disk::{Disk, FileDisk, Hook, HookDisk, PositionedFile};
+use std::alloc::Global;
 use std::io;
 use std::sync::atomic::{AtomicU64, Ordering};
+use std::test::Fail;
 
 // What a digit of the notes stands for: the hook was told, the file was synced, read, written.
 const TOLD: u64 = 1;
@@ -64,12 +67,14 @@ impl PositionedFile for Noted<'_> {
 }
 
 // The calls, r, w and s, whether a sync fails, and the notes that they leave.
-static NOTES: [(&[u8], bool, u64); 5] = [
-    (b"s", false, 12),
-    (b"rw", false, 34),
-    (b"rws", false, 3412),
-    (b"swsrs", false, 12_412_312),
-    (b"sws", true, 12_412),
+struct Calls(&'static [u8], bool, u64);
+
+static NOTES: [Calls; 5] = [
+    Calls(b"s", false, 12),
+    Calls(b"rw", false, 34),
+    Calls(b"rws", false, 3412),
+    Calls(b"swsrs", false, 12_412_312),
+    Calls(b"sws", true, 12_412),
 ];
 
 fn play_one(disk: &mut impl Disk, call: u8) -> bool {
@@ -95,15 +100,15 @@ fn failed_of(notes: &AtomicU64, calls: &[u8], fails: bool) -> u64 {
 }
 
 // Whether the calls leave these notes, and fail where their syncs do.
-fn leaves(calls: &[u8], fails: bool, wanted: u64) -> bool {
-    let notes = AtomicU64::new(0);
-    let failed = failed_of(&notes, calls, fails);
-    notes.load(Ordering::SeqCst) == wanted && (failed > 0) == fails
+impl Row for Calls {
+    fn holds(&self, _: Global) -> bool {
+        let notes = AtomicU64::new(0);
+        let failed = failed_of(&notes, self.0, self.1);
+        notes.load(Ordering::SeqCst) == self.2 && (failed > 0) == self.1
+    }
 }
 
 #[test]
-fn a_hook_is_told_of_each_sync_before_it_is_made(rt: HostRuntime) {
-    for (calls, fails, wanted) in &NOTES {
-        assert!(rt; leaves(*calls, *fails, *wanted), "at {wanted}");
-    }
+fn a_hook_is_told_of_each_sync_before_it_is_made(rt: HostRuntime) -> Result<(), Fail> {
+    try_all(rt.alloc(), &NOTES)
 }

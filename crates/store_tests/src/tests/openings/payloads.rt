@@ -1,12 +1,11 @@
 //! Images whose gates were opened by hand: what an opening makes of the payloads behind them, by
 //! the version byte.
-use super::{KEY, fault_of, fresh, one_guest, opened, overwrite};
-use disk::CutDisk;
-use intent_slots::{Intent, PAYLOAD_LENGTH};
+use super::image::{Bench, Image, KEY, ONE, Row, try_rows};
+use crate::tests::intents::write_of;
+use intent_slots::PAYLOAD_LENGTH;
 use recovery::OpenFault;
-use rpmb_core::Partition;
-use rpmb_frame::BoardConfig;
 use std::alloc::Global;
+use std::test::Fail;
 
 /// What is put into a slot.
 #[derive(Clone, Copy)]
@@ -23,44 +22,37 @@ enum Put {
 
 /// The version byte, what is put into slot A and slot B, and the counter that an opening finds;
 /// None where it finds no image.
-type Case = (u8, Put, Put, Option<u32>);
+struct Case(u8, Put, Put, Option<u32>);
 
 static CASES: [Case; 17] = [
-    (2, Put::Nothing, Put::Nothing, Some(0)),
-    (2, Put::Write(1), Put::Nothing, Some(1)),
-    (2, Put::Nothing, Put::Write(5), Some(5)),
+    Case(2, Put::Nothing, Put::Nothing, Some(0)),
+    Case(2, Put::Write(1), Put::Nothing, Some(1)),
+    Case(2, Put::Nothing, Put::Write(5), Some(5)),
     // In either order of the slots.
-    (2, Put::Write(1), Put::Write(2), Some(2)),
-    (2, Put::Write(8), Put::Write(7), Some(8)),
+    Case(2, Put::Write(1), Put::Write(2), Some(2)),
+    Case(2, Put::Write(8), Put::Write(7), Some(8)),
     // A request between them is missing, or they are the same one, or of two keys.
-    (2, Put::Write(1), Put::Write(3), None),
-    (2, Put::Write(3), Put::Write(1), None),
-    (2, Put::Write(1), Put::Write(1), None),
-    (2, Put::Write(1), Put::Other(2), None),
-    (2, Put::Other(2), Put::Write(1), None),
-    (2, Put::Write(1), Put::Zeros, None),
-    (2, Put::Nothing, Put::Zeros, None),
+    Case(2, Put::Write(1), Put::Write(3), None),
+    Case(2, Put::Write(3), Put::Write(1), None),
+    Case(2, Put::Write(1), Put::Write(1), None),
+    Case(2, Put::Write(1), Put::Other(2), None),
+    Case(2, Put::Other(2), Put::Write(1), None),
+    Case(2, Put::Write(1), Put::Zeros, None),
+    Case(2, Put::Nothing, Put::Zeros, None),
     // Slot B counts in version 2 alone.
-    (1, Put::Nothing, Put::Zeros, Some(0)),
-    (1, Put::Write(1), Put::Write(3), Some(1)),
-    (0, Put::Write(1), Put::Other(2), Some(1)),
-    (3, Put::Write(1), Put::Write(2), Some(1)),
-    (255, Put::Zeros, Put::Write(1), None),
+    Case(1, Put::Nothing, Put::Zeros, Some(0)),
+    Case(1, Put::Write(1), Put::Write(3), Some(1)),
+    Case(0, Put::Write(1), Put::Other(2), Some(1)),
+    Case(3, Put::Write(1), Put::Write(2), Some(1)),
+    Case(255, Put::Zeros, Put::Write(1), None),
 ];
 
 /// Where the gate and the payload of each slot stand.
 static PLACES: [(u64, u64); 2] = [(1_536, 2_048), (18_944, 19_456)];
 
-fn intent(alloc: Global, key: [u8; 32], counter: u32) -> Option<Intent> {
-    let Ok(blocks) = vec![in alloc; 0x77; 256] else {
-        return None;
-    };
-    Some(Intent::write(0, key, counter, 0, blocks))
-}
-
 /// The payload of a write under this counter and key.
 fn encoded(alloc: Global, key: [u8; 32], counter: u32) -> Option<Vec<u8>> {
-    let Some(intent) = intent(alloc, key, counter) else {
+    let Some(intent) = write_of(alloc, (0, key), counter, (0, 0x77), 1) else {
         return None;
     };
     let Ok(mut bytes) = vec![in alloc; 0; PAYLOAD_LENGTH] else {
@@ -80,69 +72,43 @@ fn payload(alloc: Global, put: Put) -> Option<Vec<u8>> {
 }
 
 /// Puts a payload behind a gate, and opens it.
-fn fill_slot(alloc: Global, disk: &mut CutDisk, slot: usize, put: Put) -> bool {
-    let Some((gate, at)) = PLACES.get(slot) else {
-        return false;
-    };
+fn fills_slot<I: Image>(bench: &mut Bench<I>, slot: usize, put: Put) -> bool {
     if let Put::Nothing = put {
         return true;
     }
-    match payload(alloc, put) {
-        Some(bytes) => overwrite(disk, *at, &bytes) && overwrite(disk, *gate, &[0xA5]),
+    let (gate, at) = PLACES[slot.min(1)];
+    match payload(bench.alloc, put) {
+        Some(bytes) => bench.image.put(at, &bytes) && bench.image.put(gate, &[0xA5]),
         None => false,
     }
 }
 
 /// An image with this version byte, and this in its slots.
-fn image(alloc: Global, board: &BoardConfig, case: &Case) -> Option<CutDisk> {
-    let Some(mut disk) = fresh(alloc, board) else {
-        return None;
-    };
-    if !overwrite(&mut disk, 512, &[case.0])
-        || !fill_slot(alloc, &mut disk, 0, case.1)
-        || !fill_slot(alloc, &mut disk, 1, case.2)
-    {
-        return None;
-    }
-    Some(disk)
+fn is_made<I: Image>(bench: &mut Bench<I>, case: &Case) -> bool {
+    bench.image.put(512, &[case.0]) && fills_slot(bench, 0, case.1) && fills_slot(bench, 1, case.2)
 }
 
-fn counter_of(alloc: Global, board: &BoardConfig, disk: CutDisk) -> Option<u32> {
-    match opened(alloc, disk, board) {
-        Some((_, partitions)) => counter_in(&partitions),
-        None => None,
+fn opens_to<I: Image>(bench: &mut Bench<I>, counter: u32) -> bool {
+    match (bench.opens(), bench.image.found(0)) {
+        (true, Some(found)) => found.1 == counter,
+        _ => false,
     }
 }
 
-/// The counter of the first partition.
-fn counter_in(partitions: &[Partition]) -> Option<u32> {
-    match partitions.first() {
-        Some(partition) => Some(partition.counter()),
-        None => None,
+/// An opening finds the counter, or no image.
+impl<I: Image> Row<I> for Case {
+    fn goes(&self, bench: &mut Bench<I>) -> bool {
+        if !is_made(bench, self) {
+            return false;
+        }
+        match self.3 {
+            Some(counter) => opens_to(bench, counter),
+            None => bench.fault() == Some(OpenFault::NotFormatted),
+        }
     }
-}
-
-/// Whether an opening finds the counter, or no image.
-fn is_found(alloc: Global, board: &BoardConfig, case: &Case) -> bool {
-    let Some(disk) = image(alloc, board, case) else {
-        return false;
-    };
-    match case.3 {
-        Some(counter) => counter_of(alloc, board, disk) == Some(counter),
-        None => fault_of(alloc, disk, board) == Some(OpenFault::NotFormatted),
-    }
-}
-
-fn one_is_found(alloc: Global, case: &Case) -> bool {
-    let Some(board) = one_guest(alloc) else {
-        return false;
-    };
-    is_found(alloc, &board, case)
 }
 
 #[test]
-fn payloads_by_version(rt: HostRuntime) {
-    for (number, case) in CASES.iter().enumerate() {
-        assert!(rt; one_is_found(rt.alloc(), case), "{number}");
-    }
+fn payloads_by_version(rt: HostRuntime) -> Result<(), Fail> {
+    try_rows(rt.alloc(), ONE, &CASES)
 }
