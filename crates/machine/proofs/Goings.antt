@@ -14,10 +14,11 @@ use Rattle.board.specs.State.{in_place}
 use Rattle.machine.proofs.Common.{slice_get, AskingState, Boards, MachineFault, Range, Runs}
 use Rattle.machine.specs.Ending.{FindsNone, GoesOnFor, HasEnded, HasSeenAll, IsHandedOn}
 use Rattle.machine.specs.Ending.{NeedsNext, NotifiesNext, RestsAt, SawAll, Went, left_by}
-use Rattle.machine.specs.Serving.{HasNoReply, KeepsWaiting, SameDevices, is_write}
+use Rattle.machine.specs.Serving.{HasNoReply, KeepsLimit, KeepsWaiting, SameDevices, is_write}
 use Rattle.machine.specs.Turn.{Stand, TurnState, stand_of}
 use Rattle.machine.specs.declared.serving.Next.{Next}
 use Rattle.machine.specs.declared.serving.Next.TheVariants as next
+use Rattle.machine.proofs.Limits.{limit_twice}
 use Rattle.machine.proofs.Runs.{runs_twice, then_does}
 
 -- 1. Whether the driver is to be notified
@@ -89,11 +90,13 @@ module _ (guest most : ℕ) where
 
   pub went_after : (t0 t1 t2 : TurnState) (a b c : Boards) (n : Option Next)
       → Runs guest (stand_of t0) a (stand_of t1) b → length b.devices ≡ length a.devices
-      → t1.asked ≡ t0.asked → Went guest most t1 t2 b c n → Went guest most t0 t2 a c n
-  went_after t0 t1 t2 a b c n runs count asked went = record {
+      → t1.asked ≡ t0.asked → KeepsLimit guest most a.rest b.rest → Went guest most t1 t2 b c n
+      → Went guest most t0 t2 a c n
+  went_after t0 t1 t2 a b c n runs count asked limit went = record {
     runs = runs_twice guest (stand_of t0) (stand_of t1) (left_by n t2) a b c runs went.runs;
     needs = went.needs;
     busy = busy_after (stand_of t0) (stand_of t1) a b c t2 n runs went.busy;
+    limit = limit_twice guest most a.rest b.rest c.rest limit went.limit;
     count = went.count ∙ count;
     asked = went.asked ∙ asked;
   }
@@ -101,11 +104,13 @@ module _ (guest most : ℕ) where
   pub went_by : (t t' : TurnState) (a b : Boards) (n : Option Next)
       → Runs guest (stand_of t) a (left_by n t') b → NeedsNext guest most t'.parts b n
       → GoesOnFor guest (stand_of t) a t' b n
-      → length b.devices ≡ length a.devices → t'.asked ≡ t.asked → Went guest most t t' a b n
-  went_by t t' a b n runs needs busy count asked = record {
+      → length b.devices ≡ length a.devices → t'.asked ≡ t.asked
+      → KeepsLimit guest most a.rest b.rest → Went guest most t t' a b n
+  went_by t t' a b n runs needs busy count asked limit = record {
     runs = runs;
     needs = needs;
     busy = busy;
+    limit = limit;
     count = count;
     asked = asked;
   }

@@ -5,6 +5,7 @@ pub mod Ends
 pub mod Formatting
 pub mod Goings
 pub mod Handed
+pub mod Limits
 pub mod Replies
 pub mod Rests
 pub mod Moved

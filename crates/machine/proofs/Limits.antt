@@ -2,7 +2,8 @@
 use Rattle.std.proofs.Common.{◌≡◌, ◌≤◌, ◌<◌, inl, inr, refl, ap, ◌∙◌, ℕ, ◌+◌, Bool, true, false}
 use Rattle.std.proofs.Common.{Option, Some, None, List, [], ◌∷◌, drop, length, arith, length-append}
 use Rattle.std.proofs.Common.{length-set}
-use Rattle.std.specs.Prelude.{option_map, if◌then◌else◌, ◌==◌, is_some}
+use Rattle.std.specs.Prelude.{option_map, if◌then◌else◌, ◌==◌, is_some, nat_lt}
+use Rattle.board.proofs.Common.{nat_tests}
 use Rattle.machine.proofs.Common.{slice_get, Answer, BoardState, Boards, CollectsInto}
 use Rattle.machine.proofs.Common.{DeviceState, Done, HandsReply, Job, Makes, OutboxMakes, OutboxState}
 use Rattle.machine.proofs.Common.{PopsInto, SubmitsFrom, Tally, board_of, get_set_same, in_place}
@@ -177,7 +178,10 @@ handed_fewer g published a b hands = (
 
 -- 3. One move after another
 
-module _ (g most : ℕ) (a b c : BoardState OutboxState) where
+is_below : (n m : ℕ) → nat_lt n m ≡ true → n < m
+is_below n m is = grind (arith, nat_tests)
+
+module _ (g most : ℕ) (a b : BoardState OutboxState) where
   pub limit_same : b ≡ a → KeepsLimit g most a b
   limit_same is = inl (let same = ap (λ r. waiting g r) is in omega (arith, same))
 
@@ -185,13 +189,16 @@ module _ (g most : ℕ) (a b c : BoardState OutboxState) where
   limit_kept keeps = inl (let same = keeps.1 in omega (arith, same))
 
   -- a chain more was taken where fewer wait than may
-  pub limit_one : waiting g a < most → waiting g b ≤ waiting g a + 1 → KeepsLimit g most a b
-  limit_one fewer one = inr (omega (arith, fewer, one))
+  pub limit_one : nat_lt (waiting g a) most ≡ true → waiting g b ≤ waiting g a + 1
+      → KeepsLimit g most a b
+  limit_one fewer one = inr (let below = is_below (waiting g a) most fewer in
+      omega (arith, below, one))
 
-  pub limit_twice : KeepsLimit g most a b → KeepsLimit g most b c → KeepsLimit g most a c
-  limit_twice first (inr few) = inr few
-  limit_twice (inl less) (inl more) = inl (omega (arith, less, more))
-  limit_twice (inr few) (inl more) = inr (omega (arith, few, more))
+pub limit_twice : (g most : ℕ) (a b c : BoardState OutboxState) → KeepsLimit g most a b
+    → KeepsLimit g most b c → KeepsLimit g most a c
+limit_twice g most a b c first (inr few) = inr few
+limit_twice g most a b c (inl less) (inl more) = inl (omega (arith, less, more))
+limit_twice g most a b c (inr few) (inl more) = inr (omega (arith, few, more))
 
 -- what a monitor's answer changes is the device's
 pub answered_rest : (g : ℕ) (a : Asked) (there : Bool) (bytes : List ℕ) (ok : Bool)

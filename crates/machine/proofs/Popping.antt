@@ -52,7 +52,7 @@ pops_by guest qs v answer b b' d its makes over parts =
 -- and where it gave a chain something was done
 pub pops_does : (guest : ℕ) (qs : List Range) (v : Bool) (answer : Answer) (b b' : Boards)
     (d : AskingState) → slice_get b.devices guest ≡ Some d → Makes (step.Pop guest) answer b b'
-    → v ≡ false → qs ≡ pop_parts d.device → answer ≢ Ok Nothing
+    → v ≡ false → qs ≡ pop_parts d.device → answer ≡ Ok Did
     → DoesSome guest (standing [] true) b (standing qs v) b'
 pops_does guest qs v answer b b' d its makes over parts some =
     subst (λ h. DoesSome guest (standing [] true) b (standing qs h) b') (sym over)

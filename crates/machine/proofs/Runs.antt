@@ -1,5 +1,5 @@
 -- What serves a guest, one part after another.
-use Rattle.std.proofs.Common.{◌≡◌, ◌≢◌, ap, sym, subst, ◌∙◌, ℕ, Bool, true, false, List, [], Ok}
+use Rattle.std.proofs.Common.{◌≡◌, ap, sym, subst, ◌∙◌, ℕ, Bool, true, false, List, [], Ok}
 use Rattle.machine.proofs.Common.{slice_set, OutboxMakes, OutboxState, outbox_state}
 use Rattle.machine.proofs.Common.{AskingState, BoardState, board_of, with_devices, Moves}
 use Rattle.machine.proofs.Common.{moves_none}
@@ -8,8 +8,7 @@ use Rattle.machine.proofs.Common.{Hands}
 use Rattle.machine.proofs.Common.{IsShare, Knows, LearnsOf, Makes, Pops, Runs}
 use Rattle.machine.proofs.Common.{Still, Then, Voids, GivesUp, Stand, standing}
 use Rattle.board.proofs.AskingSteps.{device_in, map-set}
-use Rattle.board.specs.declared.step.Seen.TheVariants.{Nothing}
-use Rattle.machine.specs.Serving.{ByPop, ByReply, ByStep, ByStop, DoesSome}
+use Rattle.machine.specs.Serving.{ByPop, ByReply, ByStep, ByStop, DoesSome, IsDone}
 
 module _ (guest : ℕ) where
   pub runs_twice : (s t u : Stand) (a b c : Boards) → Runs guest s a t b → Runs guest t b u c
@@ -73,9 +72,9 @@ module _ (guest : ℕ) where
   then_does s t u a b c first (ByStop r w qs g x y z d before refuses after) =
       ByStop s u qs g a y z c (runs_twice s t (standing qs g) a b y first before) refuses after
 
-  -- a step that no device makes, and that isn't for nothing
+  -- a step that no device makes, and that did what it is for
   pub does_step : (s : Stand) (a b : Boards) (x : Step) (answer : Answer) → IsShare guest x a
-      → Makes x answer a b → answer ≢ Ok Nothing → DoesSome guest s a s b
+      → Makes x answer a b → IsDone x answer → DoesSome guest s a s b
   does_step s a b x answer share makes some =
       ByStep s s s a a b b x answer (Still s a) share makes some (Still s b)
 

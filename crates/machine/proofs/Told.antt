@@ -1,6 +1,6 @@
 -- What a monitor is asked for.
 use Rattle.std.proofs.Common.{◌≡◌, ◌≤◌, ◌<◌, refl, ap, sym, subst, ◌∙◌, ℕ, Bool, true, false, List}
-use Rattle.std.proofs.Common.{Some, None, IfSome, length}
+use Rattle.std.proofs.Common.{Some, None, Option, IfSome, length}
 use Rattle.std.proofs.lemmas.Option.{slice_get_past}
 use Rattle.std.specs.Prelude.{take}
 use Rattle.guest_memory.specs.Memory.{bytes_at}
@@ -9,12 +9,15 @@ use Rattle.machine.proofs.Common.{◌&&◌, slice_get, slice_set, is_some, get_s
 use Rattle.machine.proofs.Common.{Boards, MachineState, Range, Runs}
 use Rattle.board.specs.State.{owes}
 use Rattle.machine.specs.Ending.{HasReason, IsBusy, NeedsNext, NeedsTold, left_by}
-use Rattle.machine.specs.Machine.{IsTold, NeedsOf, NoRoom, NoSuchGuest, OfBoard, ReadsOf, RestsIn}
+use Rattle.machine.specs.Machine.{IsTold, LimitIn, NeedsOf, NoRoom, NoSuchGuest, OfBoard, ReadsOf}
+use Rattle.machine.specs.Machine.{RestsIn}
 use Rattle.machine.specs.Machine.{TellsOf, has_guest, is_over, left_of, turn_in, turn_of}
 use Rattle.machine.specs.Machine.{waits_for_sync}
 use Rattle.machine.specs.declared.fault.MachineFault.TheVariants as fault
+use Rattle.machine.specs.Serving.{KeepsLimit}
 use Rattle.machine.specs.Settings.{most_of}
 use Rattle.machine.specs.Turn.{TurnState, stand_of}
+use Rattle.machine.proofs.Limits.{limit_same}
 use Rattle.machine.proofs.Runs.{still_same}
 use Rattle.machine.specs.declared.machine.Served.{Served}
 use Rattle.machine.specs.declared.machine.What.TheVariants as what
@@ -120,6 +123,10 @@ module _ (m : MachineState) (guest : ℕ) where
   no_device past = and_third (is_some (slice_get m.setups guest))
       (is_some (slice_get m.turns guest)) _ (none_past m.board.devices guest past)
 
+  no_more : (o : Option Setup) → LimitIn guest o m m
+  no_more None = tt
+  no_more (Some w) = limit_same guest (most_of w) m.board.rest m.board.rest refl
+
   -- a guest that there isn't is refused
   pub tells_absent : (room : ℕ) (s : Served) (bytes : List ℕ) → has_guest m guest ≡ false
       → IsTold (next.Rest (Some fault.NoGuest)) s
@@ -134,6 +141,7 @@ module _ (m : MachineState) (guest : ℕ) where
     );
     sync = sync;
     waiting = waiting;
+    limit = no_more (slice_get m.setups guest);
     absent = λ gone. (told.1, refl);
   }
 
@@ -149,6 +157,7 @@ module _ (m : MachineState) (guest : ℕ) where
       (λ none. absurd (let no = told.1 in let other = none in cc)),
       (λ f some. NoRoom (let a = told.1 in let b = some in cc) short refl),
     );
+    limit = no_more (slice_get m.setups guest);
     sync = sync;
     waiting = waiting;
     absent = λ gone. absurd (let no = sym there ∙ gone in cc);
@@ -169,10 +178,12 @@ module _ (m : MachineState) (guest : ℕ) where
       → IsTold n s → Runs guest (stand_of turn) m.board (left_by (Some n) turn') new
       → NeedsTold guest most turn' bytes new n
       → (n ≡ next.Again → IsBusy guest (stand_of turn) m.board (stand_of turn') new)
+      → KeepsLimit guest most m.board.rest new.rest
       → s.sync ≡ (is_over s.what && waits_for_sync new.rest) → s.waiting ≡ owes guest new.rest
       → TellsOf guest room s bytes m
       (record m { board = new; turns = slice_set m.turns guest turn' })
-  tells_of room most w turn turn' new bytes n s setup its there limit told runs needs busy sync waiting =
+  tells_of room most w turn turn' new bytes n s setup its there limit told runs needs busy capped
+      sync waiting =
       let m' : MachineState = record m {
         board = new;
         turns =
@@ -191,6 +202,8 @@ module _ (m : MachineState) (guest : ℕ) where
             (λ again. subst (λ t. IsBusy guest (stand_of (turn_of m guest)) m.board (stand_of t) new)
             set (subst (λ o. IsBusy guest (stand_of (turn_in o)) m.board (stand_of turn') new)
             (sym its) (busy again)));
+        limit = subst (λ o. LimitIn guest o m m') (sym setup)
+            (subst (λ k. KeepsLimit guest k m.board.rest new.rest) limit capped);
         sync = sync;
         waiting = waiting;
         absent = λ gone. absurd (let no = sym there ∙ gone in cc);

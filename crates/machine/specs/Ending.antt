@@ -21,8 +21,8 @@ use Rattle.board.specs.declared.step.Step.{Step}
 use Rattle.board.specs.declared.step.Step.TheVariants as step
 use Rattle.board.specs.declared.step.StepFault.{StepFault}
 use Rattle.board.specs.declared.step.StepFault.TheVariants as step_fault
-use Rattle.machine.specs.Serving.{Boards, DoesSome, HasNoReply, Makes, RefusesIn, Runs, is_write}
-use Rattle.machine.specs.Serving.{standing}
+use Rattle.machine.specs.Serving.{Boards, DoesSome, HasNoReply, KeepsLimit, Makes, RefusesIn, Runs}
+use Rattle.machine.specs.Serving.{is_write, standing}
 use Rattle.machine.specs.declared.fault.MachineFault.{MachineFault}
 use Rattle.machine.specs.declared.fault.MachineFault.TheVariants as fault
 use Rattle.machine.specs.Turn.{Stand, TurnState, stand_of}
@@ -181,6 +181,7 @@ pub record Went (guest most : ℕ) (turn turn' : TurnState) (old new : Boards) (
   pub runs : Runs guest (stand_of turn) old (left_by n turn') new
   pub needs : NeedsNext guest most turn'.parts new n
   pub busy : GoesOnFor guest (stand_of turn) old turn' new n
+  pub limit : KeepsLimit guest most old.rest new.rest
   pub count : length new.devices ≡ length old.devices
   pub asked : turn'.asked ≡ turn.asked
 

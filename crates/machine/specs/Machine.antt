@@ -26,7 +26,7 @@ use Rattle.board.specs.State.{BoardState, owes}
 use Rattle.board.specs.Telling.{telling}
 use Rattle.board.specs.Moving.{Moves}
 use Rattle.machine.specs.Ending.{AsksIn, HasReason, IsBusy, RestsAt}
-use Rattle.machine.specs.Serving.{Boards, FailsNone, Hears, OthersStay, Runs, standing}
+use Rattle.machine.specs.Serving.{Boards, FailsNone, Hears, KeepsLimit, OthersStay, Runs, standing}
 use Rattle.machine.specs.Settings.{device_after, most_of, value_shown, value_taken}
 use Rattle.machine.specs.Turn.{Stand, TurnState, fresh_turn, stand_of}
 use Rattle.machine.specs.declared.fault.MachineFault.{MachineFault}
@@ -182,12 +182,18 @@ is_over what.Write = false
 is_over what.Call = false
 is_over what.Again = false
 
+-- no more of the guest's chains wait for their answers than before, or than may
+abbrev pub LimitIn : ℕ → Option Setup → MachineState → MachineState → Type 0
+LimitIn guest None old new = Unit {0}
+LimitIn guest (Some s) old new = KeepsLimit guest (most_of s) old.board.rest new.board.rest
+
 -- What a serve tells, behind steps of its guest alone; of a sync where it is over.
 pub record TellsOf (guest room : ℕ) (s : Served) (bytes : List ℕ) (old new : MachineState)
     : Type 0 where
   pub runs : Runs guest (stand_of (turn_of old guest)) old.board
       (left_of s.what s.at s.len (turn_of new guest)) new.board
   pub needs : NeedsOf guest room s.what s bytes old new
+  pub limit : LimitIn guest (slice_get old.setups guest) old new
   pub sync : s.sync ≡ (is_over s.what && waits_for_sync new.board.rest)
   pub waiting : s.waiting ≡ owes guest new.board.rest
   pub absent : has_guest old guest ≡ false → (s.fault ≡ Some fault.NoGuest) × (new ≡ old)

@@ -1,5 +1,5 @@
 -- What serving a guest does to a board, in steps, and what it leaves of the other guests.
-use Rattle.std.specs.Prelude.{◌≡◌, ◌≢◌, ◌⊎◌, ◌<◌, ◌^◌, ◌-◌, ℕ, Bool, List, [], slice_get}
+use Rattle.std.specs.Prelude.{◌≡◌, ◌≢◌, ◌⊎◌, ◌<◌, ◌≤◌, ◌^◌, ◌-◌, ℕ, Bool, List, [], slice_get}
 use Rattle.std.specs.Prelude.{slice_set, Some, None, Ok, true, false, IfSome, map, length, ◌++◌}
 use Rattle.chains.specs.declared.range.Range.{Range}
 use Rattle.disk.specs.Outbox.{has_room}
@@ -162,15 +162,19 @@ pub data Runs (guest : ℕ) : Stand → Boards → Stand → Boards → Type 0 w
   Voids : (s : Stand) (qs : List Range) (g : Bool) (a b c : Boards)
       → Runs guest s a (standing qs g) b → RefusesIn guest b c → Runs guest s a (standing [] g) c
 
--- Something was done among such steps: one of them did what it is for, or was refused; a chain was
--- popped; a reply was handed to its device; or the device was stopped, since there is no memory
+-- a step did what it is for; or a call of the disk failed, by which the store breaks
+abbrev pub IsDone : Step → Answer → Type 0
+IsDone x answer = (answer ≡ Ok Did) ⊎ ((x ≡ step.Advance) × (answer ≢ Ok Nothing))
+
+-- Something was done among such steps: one of them did what it is for, or broke the store; a chain
+-- was popped; a reply was handed to its device; or the device was stopped, since there is no memory
 -- where bytes were to be copied.
 pub data DoesSome (guest : ℕ) : Stand → Boards → Stand → Boards → Type 0 where
   ByStep : (s t u : Stand) (a b c d : Boards) (x : Step) (answer : Answer)
-      → Runs guest s a t b → IsShare guest x b → Makes x answer b c → answer ≢ Ok Nothing
+      → Runs guest s a t b → IsShare guest x b → Makes x answer b c → IsDone x answer
       → Runs guest t c u d → DoesSome guest s a u d
   ByPop : (s u : Stand) (qs : List Range) (a b c d : Boards) (answer : Answer)
-      → Runs guest s a (standing [] true) b → PopsOne guest answer b qs c → answer ≢ Ok Nothing
+      → Runs guest s a (standing [] true) b → PopsOne guest answer b qs c → answer ≡ Ok Did
       → Runs guest (standing qs false) c u d → DoesSome guest s a u d
   ByReply : (s u : Stand) (qs : List Range) (a b c d : Boards)
       → Runs guest s a (standing [] true) b → HandsOne guest b qs c
@@ -206,6 +210,17 @@ FailsNone old new = old.store.disk.failed ≡ false → old.store.disk.failures 
 -- the jobs stay, and as many chains of the guest wait for their answers
 abbrev pub KeepsWaiting : ℕ → BoardState OutboxState → BoardState OutboxState → Type 0
 KeepsWaiting guest old new = (new.jobs ≡ old.jobs) × (waiting guest new ≡ waiting guest old)
+
+-- no more chains of the guest wait for their answers than before, or than may
+abbrev pub KeepsLimit : (guest most : ℕ) → BoardState OutboxState → BoardState OutboxState → Type 0
+KeepsLimit guest most old new =
+    (waiting guest new ≤ waiting guest old) ⊎ (waiting guest new ≤ most)
+
+-- there are as many guests, and no more chains of this one wait
+abbrev pub AddsNone : ℕ → Boards → Boards → Type 0
+AddsNone guest old new =
+    (length new.devices ≡ length old.devices)
+    × (waiting guest new.rest ≤ waiting guest old.rest)
 
 -- no reply of the guest lies between two steps, and the book gives none
 pub record HasNoReply {D : Type 0} (guest : ℕ) (b : BoardState D) : Type 0 where

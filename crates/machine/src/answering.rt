@@ -6,7 +6,7 @@ ghost use Rattle.guest_memory.specs.Memory.{IsInside, bytes_at};
 ghost use Rattle.guest_memory.specs.declared.ask.Ask.{Ask};
 ghost use Rattle.machine.specs.Ending.{HearsAnswer, IsBusy, NeedsTold, TakesAnswer, TellsIn};
 ghost use Rattle.machine.specs.Ending.{left_by};
-ghost use Rattle.machine.specs.Serving.{DoesSome, RefusesIn, Runs, standing};
+ghost use Rattle.machine.specs.Serving.{DoesSome, KeepsLimit, RefusesIn, Runs, standing};
 ghost use Rattle.machine.specs.Turn.{stand_of};
 ghost use Rattle.machine.specs.declared.turn.Asked.TheVariants as asked_of;
 
@@ -130,6 +130,7 @@ fn need(
     ensures same { (result ≡ next) ⊎ ((result ≡ Next.Again)
         × DoesSome guest (left_by (Some next) turn.old) board.old (stand_of turn.new) board.new) }
     ensures board { result ≡ next → (board.new ≡ board.old) × (stand_of turn.new ≡ stand_of turn.old) }
+    ensures rest { board.new.rest ≡ board.old.rest }
     ensures read { (wanted : Ask) → result ≡ Next.Read wanted
         → (wanted.len ≤ 16384) × (turn.new.asked ≡ asked_of.Read wanted) }
     ensures write { (part : Part) → result ≡ Next.Write part
@@ -174,6 +175,7 @@ pub(crate) fn serve_turn(
     ensures needs { NeedsTold guest most turn.new bytes.new board.new result }
     ensures busy { result ≡ Next.Again
         → IsBusy guest (stand_of turn.old) board.old (stand_of turn.new) board.new }
+    ensures limit { KeepsLimit guest most board.old.rest board.new.rest }
     ensures heard { HearsAnswer guest turn.old.asked is_there bytes.old board.old
         (left_by (Some result) turn.new) board.new (result ≡ Next.Rest (Some MachineFault.NoMemory)) }
 {

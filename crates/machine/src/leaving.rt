@@ -7,7 +7,7 @@ ghost use Rattle.mmio_transport.specs.Written.{range_in};
 ghost use Rattle.board.specs.Asking.{board_of};
 ghost use Rattle.board.specs.State.{in_place};
 ghost use Rattle.machine.specs.Ending.{AsksIn};
-ghost use Rattle.machine.specs.Serving.{DoesSome, HasNoReply, IsNoted, QueuesStay, Runs};
+ghost use Rattle.machine.specs.Serving.{AddsNone, DoesSome, HasNoReply, IsNoted, QueuesStay, Runs};
 ghost use Rattle.machine.specs.Serving.{SameDevices, standing};
 ghost use Rattle.machine.specs.Turn.{KeepsStage, stand_of, filled_part, filled_parts};
 
@@ -156,7 +156,7 @@ fn publish(board: &mut AskingBoard<OutboxDisk>, guest: u16, turn: &mut Turn) -> 
     ensures idle { result ≢ Left.Did → turn.new.parts ≡ [] }
     ensures asks { (ask : Ask) → result ≡ Left.Asks ask → AsksIn guest ask board.new }
     ensures either { (result ≢ Left.Nothing) × (result ≢ Left.NoMemory) }
-    ensures count { length board.new.devices ≡ length board.old.devices }
+    ensures count { AddsNone guest board.old board.new }
     ensures keeps { KeepsStage turn.old turn.new }
 {
     match board.publish(guest) {
@@ -189,7 +189,7 @@ pub(crate) fn leave_one(board: &mut AskingBoard<OutboxDisk>, guest: u16, turn: &
     ensures nothing { result ≡ Left.Nothing → HasNoReply guest board.new.rest
         × (board.new.devices ≡ board.old.devices)
         × (board_of board.new ≡ board_of board.old) }
-    ensures count { length board.new.devices ≡ length board.old.devices }
+    ensures count { AddsNone guest board.old board.new }
     ensures keeps { KeepsStage turn.old turn.new }
 {
     board.collect(guest);

@@ -1,11 +1,12 @@
 //! Taking what a guest offered: each chain is popped, and answered by the book.
-ghost use Rattle.std.specs.Prelude.{◌≡◌, ◌≢◌, ◌<◌, ◌⊎◌, ◌++◌, ℕ, [], List, length};
+ghost use Rattle.std.specs.Prelude.{◌≡◌, ◌≢◌, ◌<◌, ◌≤◌, ◌+◌, ◌⊎◌, ◌++◌, ℕ, [], List, length};
 ghost use Rattle.std.specs.Prelude.{Bool, false, true, IfSome, IsSome, slice_get};
 ghost use Rattle.chains.specs.declared.range.Range.{Range as Part};
 ghost use Rattle.guest_memory.specs.declared.ask.Ask.{Ask};
-ghost use Rattle.board.specs.State.{HasNoJob, in_place};
+ghost use Rattle.board.specs.State.{HasNoJob, in_place, waiting};
 ghost use Rattle.machine.specs.Ending.{HasSeenAll, IsRefused, IsTaken, TookSome};
-ghost use Rattle.machine.specs.Serving.{DoesSome, HasNoCopy, Runs, SameDevices, standing};
+ghost use Rattle.machine.specs.Serving.{DoesSome, HasNoCopy, KeepsLimit, Runs, SameDevices};
+ghost use Rattle.machine.specs.Serving.{standing};
 ghost use Rattle.machine.specs.Turn.{KeepsStage, Stand, pop_parts, stand_of};
 
 use crate::fault::MachineFault;
@@ -137,6 +138,7 @@ fn pop(board: &mut AskingBoard<OutboxDisk>, guest: u16, turn: &mut Turn) -> Take
     ensures taken { (most : ℕ) → IsTaken guest most turn.new.parts board.new result }
     ensures did { result ≡ Taken.Did
         → TookSome guest (standing [] true) board.old turn.new board.new }
+    ensures waits { waiting guest board.new.rest ≤ waiting guest board.old.rest + 1 }
     ensures count { length board.new.devices ≡ length board.old.devices }
     ensures keeps { KeepsStage turn.old turn.new }
 {
@@ -176,6 +178,7 @@ fn look(board: &mut AskingBoard<OutboxDisk>, guest: u16, turn: &mut Turn) -> Tak
     ensures taken { (most : ℕ) → IsTaken guest most turn.new.parts board.new result }
     ensures did { result ≡ Taken.Did
         → TookSome guest (standing [] turn.old.going) board.old turn.new board.new }
+    ensures waits { waiting guest board.new.rest ≤ waiting guest board.old.rest + 1 }
     ensures count { length board.new.devices ≡ length board.old.devices }
     ensures keeps { KeepsStage turn.old turn.new }
 {
@@ -190,6 +193,7 @@ fn submit(board: &mut AskingBoard<OutboxDisk>, guest: u16) -> Taken
     ensures runs { (s : Stand) → Runs guest s board.old s board.new }
     ensures did { result ≡ Taken.Did → (s : Stand) → DoesSome guest s board.old s board.new }
     ensures either { (result ≡ Taken.Did) ⊎ IsRefused guest result }
+    ensures waits { waiting guest board.new.rest ≤ waiting guest board.old.rest }
     ensures devices { board.new.devices ≡ board.old.devices }
 {
     board.what_always_holds();
@@ -214,6 +218,7 @@ pub(crate) fn take_one(
     ensures taken { IsTaken guest most turn.new.parts board.new result }
     ensures did { result ≡ Taken.Did
         → TookSome guest (standing [] turn.old.going) board.old turn.new board.new }
+    ensures limit { KeepsLimit guest most board.old.rest board.new.rest }
     ensures count { length board.new.devices ≡ length board.old.devices }
     ensures keeps { KeepsStage turn.old turn.new }
 {

@@ -3,6 +3,7 @@ use Rattle.machine.proofs.Common.{stand_of}
 use Rattle.machine.specs.Ending.{GoesOnFor, IsBusy, Lacks, NeedsNext, NeedsTold, left_by}
 use Rattle.machine.specs.declared.serving.Next.TheVariants as next
 use Rattle.machine.proofs.Goings.{busy_after}
+use Rattle.machine.proofs.Limits.{answered_rest, limit_same, limit_twice}
 use Rattle.machine.proofs.Runs.{runs_twice, then_does}
 use Rattle.machine.proofs.Told.{told_of}
 use Rattle.machine.proofs.answering.serve_turn.Goals as goal
@@ -66,6 +67,25 @@ returns-clause-busy c again =
           (then_does g t (left_by (Some c.serve-next.result) v) (stand_of c.need.new.turn) b d e
           w.runs stopped.1))
     ]
+
+pub returns-then-not-answer-clause-limit : goal.returns-then-not-answer-clause-limit
+returns-then-not-answer-clause-limit c =
+    limit_same c.args.guest c.args.most c.args.board.now.rest c.answer.new.board.rest
+    (answered_rest c.args.guest _ c.args.is_there _ _ c.args.board.now c.answer.new.board
+    c.answer.ensures.takes)
+
+pub returns-clause-limit : goal.returns-clause-limit
+returns-clause-limit c =
+    let g = c.args.guest in
+    let m = c.args.most in
+    let a = c.args.board.now.rest in
+    let d = c.serve-next.new.board.rest in
+    limit_twice g m a d c.need.new.board.rest
+    (limit_twice g m a c.answer.new.board.rest d
+    (limit_same g m a c.answer.new.board.rest
+    (answered_rest g _ c.args.is_there _ _ c.args.board.now c.answer.new.board
+    c.answer.ensures.takes)) c.serve-next.ensures.went.limit)
+    (limit_same g m d c.need.new.board.rest c.need.ensures.rest)
 
 pub returns-clause-heard : goal.returns-clause-heard
 returns-clause-heard c = record {

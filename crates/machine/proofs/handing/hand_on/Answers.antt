@@ -1,4 +1,4 @@
-use Rattle.std.proofs.Common.{subst, ◌≡◌, refl, Bool, false, true, ℕ}
+use Rattle.std.proofs.Common.{inl, subst, ◌≡◌, refl, Bool, false, true, ℕ}
 use Rattle.std.specs.Prelude.{◌||◌}
 use Rattle.machine.proofs.Common.{Boards, IsShare, Makes, Runs, Stand, Step}
 use Rattle.board.specs.Steps.{did_answer}
@@ -45,7 +45,7 @@ module _ (g : ℕ) (s : Stand) (a b d e f : Boards) (first : Runs g s a s b) (se
 did_some : (g : ℕ) (s : Stand) (a b : Boards) (x : Step) (did : Bool) → IsShare g x a
     → Makes x (did_answer did) a b → did ≡ true → DoesSome g s a s b
 did_some g s a b x true share makes is =
-    does_step g s a b x (did_answer true) share makes (λ same. absurd (let no = same in cc))
+    does_step g s a b x (did_answer true) share makes (inl refl)
 did_some g s a b x false share makes is = absurd (let no = is in cc)
 
 pub returns-clause-runs : goal.returns-clause-runs

@@ -1,4 +1,4 @@
-use Rattle.std.proofs.Common.{◌≡◌, ◌∙◌, Bool, Ok, ap, refl, subst, sym}
+use Rattle.std.proofs.Common.{◌≡◌, ◌∙◌, Bool, Ok, ap, inl, inr, refl, subst, sym}
 use Rattle.machine.proofs.Common.{BoardState, Makes, OutboxState, Still}
 use Rattle.disk.specs.Outbox.{has_room}
 use Rattle.board.specs.Steps.{answer_by}
@@ -61,8 +61,7 @@ returns-in-Ok-clause-made c made guest s =
       write = sym c.has_write.ensures ∙ c.if-not-has_write.false;
       room = room_of c.args.board.now.rest c.rest.result.now c.disk.result.now _
           c.rest.ensures c.disk.ensures (sym c.has_room.ensures ∙ c.if-not-has_room.false);
-    }) makes
-    (λ same. absurd (let no = same in cc))
+    }) makes (inl refl)
 
 pub returns-in-Err-clause-runs : goal.returns-in-Err-clause-runs
 returns-in-Err-clause-runs c guest s =
@@ -85,7 +84,7 @@ returns-in-Err-clause-made c made guest s =
       room = room_of c.args.board.now.rest c.rest.result.now c.disk.result.now _
           c.rest.ensures c.disk.ensures (sym c.has_room.ensures ∙ c.if-not-has_room.false);
     }) makes
-    (λ same. absurd (let no = same in cc))
+    (inr (refl, λ same. absurd (let no = same in cc)))
 
 pub returns-in-Ok-clause-none : goal.returns-in-Ok-clause-none
 returns-in-Ok-clause-none c unmade report =

@@ -1,7 +1,9 @@
-use Rattle.std.proofs.Common.{[], rules, refl, sym, subst, true}
+use Rattle.std.proofs.Common.{[], ap, arith, ◌∙◌, length, rules, refl, sym, subst, true}
 use Rattle.std.specs.Prelude.{IsSome}
 use Rattle.machine.proofs.Common.{slice_get, Runs, board_of, in_place, standing}
+use Rattle.board.specs.State.{waiting}
 use Rattle.machine.proofs.Ends.{collected_same, none_collected}
+use Rattle.machine.proofs.Limits.{collected_waits}
 use Rattle.board.specs.declared.step.Step.TheVariants as step
 use Rattle.machine.proofs.Runs.{runs_step, runs_twice, then_does}
 use Rattle.machine.proofs.leaving.leave_one.Goals as goal
@@ -66,3 +68,28 @@ returns-clause-did c is =
     c.prepare.new.board
     (runs_step g s c.args.board.now c.collect.new.self (step.Collect g) _ refl
     c.collect.ensures.steps) c.prepare.ensures.runs)) (c.publish.ensures.did is)
+
+pub returns-then-is_none-clause-count : goal.returns-then-is_none-clause-count
+returns-then-is_none-clause-count c = (
+  ap length c.collect.ensures.devices,
+  collected_waits c.args.guest _ c.args.board.now c.collect.new.self c.collect.ensures.steps,
+)
+
+pub returns-then-not-prepare-clause-count : goal.returns-then-not-prepare-clause-count
+returns-then-not-prepare-clause-count c =
+    let g = c.args.guest in
+    let less = collected_waits g _ c.args.board.now c.collect.new.self c.collect.ensures.steps in
+    let same = ap (λ r. waiting g r) c.prepare.ensures.rest in (
+      c.prepare.ensures.count ∙ ap length c.collect.ensures.devices,
+      omega (arith, less, same),
+    )
+
+pub returns-clause-count : goal.returns-clause-count
+returns-clause-count c =
+    let g = c.args.guest in
+    let less = collected_waits g _ c.args.board.now c.collect.new.self c.collect.ensures.steps in
+    let same = ap (λ r. waiting g r) c.prepare.ensures.rest in
+    let more = c.publish.ensures.count.1 in (
+      c.publish.ensures.count.0 ∙ c.prepare.ensures.count ∙ ap length c.collect.ensures.devices,
+      omega (arith, less, same, more),
+    )

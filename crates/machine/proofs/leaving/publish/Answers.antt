@@ -1,6 +1,8 @@
-use Rattle.std.proofs.Common.{refl, ap, subst, ◌∙◌, Ok, Some, true, []}
+use Rattle.std.proofs.Common.{arith, length, refl, ap, subst, ◌∙◌, Ok, Some, true, []}
 use Rattle.machine.proofs.Common.{OutboxMakes, outbox_state, stand_of, standing}
 use Rattle.board.specs.Asking.{PublishesOf}
+use Rattle.board.specs.State.{waiting}
+use Rattle.machine.proofs.Limits.{handed_fewer}
 use Rattle.machine.proofs.Replies.{hands_by, hands_does, noted_reply}
 use Rattle.machine.proofs.Popping.{still_by}
 use Rattle.machine.proofs.leaving.publish.Goals as goal
@@ -52,3 +54,26 @@ returns-in-Ok-Some-Dropped-clause-did c is =
     (o.field-0-is ∙ ap Some o.field-0-0-is) o.ensures in
     hands_does g _ _ _ b c.publish.new.self hands (ap (λ t. t.going) c.stop.ensures)
     (ap (λ t. t.parts) c.stop.ensures)
+
+pub returns-in-Err-clause-count : goal.returns-in-Err-clause-count
+returns-in-Err-clause-count c =
+    let same = ap (λ b. waiting c.args.guest b.rest) c.in-Err.ensures.same in
+    (ap (λ b. length b.devices) c.in-Err.ensures.same, omega (arith, same))
+
+pub returns-in-Ok-Some-Wrote-clause-count : goal.returns-in-Ok-Some-Wrote-clause-count
+returns-in-Ok-Some-Wrote-clause-count c =
+    let g = c.args.guest in
+    let b = c.args.board.now in
+    let o = c.in-Ok-Some-Wrote in
+    handed_fewer g _ b c.publish.new.self
+    (subst (λ p. PublishesOf outbox_state OutboxMakes g (Ok p) b c.publish.new.self)
+    (o.field-0-is ∙ ap Some o.field-0-0-is) o.ensures)
+
+pub returns-in-Ok-Some-Dropped-clause-count : goal.returns-in-Ok-Some-Dropped-clause-count
+returns-in-Ok-Some-Dropped-clause-count c =
+    let g = c.args.guest in
+    let b = c.args.board.now in
+    let o = c.in-Ok-Some-Dropped in
+    handed_fewer g _ b c.publish.new.self
+    (subst (λ p. PublishesOf outbox_state OutboxMakes g (Ok p) b c.publish.new.self)
+    (o.field-0-is ∙ ap Some o.field-0-0-is) o.ensures)

@@ -2,6 +2,7 @@ use Rattle.std.proofs.Common.{Some, ◌∙◌, sym, subst}
 use Rattle.machine.proofs.Common.{Runs, stand_of, standing}
 use Rattle.machine.specs.Ending.{NotifiesNext, left_by}
 use Rattle.machine.proofs.Goings.{notified_busy, notified_needs, went_after, went_by}
+use Rattle.machine.proofs.Limits.{limit_same}
 use Rattle.machine.proofs.serving.call.Goals as goal
 
 pub take-requires-clause-parts : goal.take-requires-clause-parts
@@ -22,7 +23,7 @@ returns-in-Some c =
           (left_by c.notify.result t') b') (sym c.requires.parts) n.runs))
           (notified_needs g c.args.most t'.parts b' (Some c.in-Some.next) needs)
           (notified_busy g c.args.most (stand_of t) c.args.board.now b' t' c.in-Some.next needs)
-          n.count n.asked;
+          n.count n.asked (limit_same g c.args.most c.args.board.now.rest b'.rest n.rest);
     }
 
 pub returns-in-None : goal.returns-in-None
@@ -37,5 +38,6 @@ returns-in-None c =
           (subst (λ o. Runs g (stand_of t) c.args.board.now (left_by o t') b') c.in-None.is
           (subst (λ ps. Runs g (standing ps t.going) c.args.board.now
           (left_by c.notify.result t') b') (sym c.requires.parts) n.runs))
-          n.count n.asked c.take.ensures.went;
+          n.count n.asked (limit_same g c.args.most c.args.board.now.rest b'.rest n.rest)
+          c.take.ensures.went;
     }

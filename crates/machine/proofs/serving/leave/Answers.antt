@@ -1,4 +1,4 @@
-use Rattle.std.proofs.Common.{refl, ap, sym, subst, ◌∙◌}
+use Rattle.std.proofs.Common.{inl, refl, ap, sym, subst, ◌∙◌}
 use Rattle.machine.proofs.Common.{Runs, stand_of, standing}
 use Rattle.machine.specs.Ending.{Lacks}
 use Rattle.machine.proofs.Goings.{went_after, went_by}
@@ -24,8 +24,9 @@ returns-in-NoMemory c =
           (subst (λ ps. Runs g (standing ps s.going) a t b) (sym c.requires.parts)
           c.leave_one.ensures.runs)
           (gives_up g t.parts t.going u b (ap stand_of c.take_next.ensures)))
-          (Lacks refl) tt c.leave_one.ensures.count
-          (ap (λ v. v.asked) c.take_next.ensures ∙ c.leave_one.ensures.keeps.1);
+          (Lacks refl) tt c.leave_one.ensures.count.0
+          (ap (λ v. v.asked) c.take_next.ensures ∙ c.leave_one.ensures.keeps.1)
+          (inl c.leave_one.ensures.count.1);
     }
 
 pub returns-in-Nothing : goal.returns-in-Nothing
@@ -38,5 +39,6 @@ returns-in-Nothing c =
           c.call.new.board _
           (subst (λ ps. Runs g (standing ps t.going) c.args.board.now (stand_of l.turn) l.board)
           (sym c.requires.parts) c.leave_one.ensures.runs)
-          c.leave_one.ensures.count c.leave_one.ensures.keeps.1 c.call.ensures.went;
+          c.leave_one.ensures.count.0 c.leave_one.ensures.keeps.1 (inl c.leave_one.ensures.count.1)
+          c.call.ensures.went;
     }

@@ -3,6 +3,7 @@ use Rattle.machine.proofs.Common.{stand_of, standing}
 use Rattle.machine.specs.Ending.{Went}
 use Rattle.machine.specs.declared.serving.Next.TheVariants as next
 use Rattle.machine.proofs.Goings.{went_by}
+use Rattle.machine.proofs.Limits.{limit_same}
 use Rattle.machine.proofs.Runs.{still_same}
 use Rattle.machine.proofs.serving.move_on.Goals as goal
 
@@ -19,7 +20,7 @@ returns-in-Some c =
     record {
       went = went_by g c.args.most c.args.turn.now c.next_part.new.self b b (Some (next.Write part))
           first tt tt refl
-          (ap (λ t. t.asked) c.next_part.ensures.rest);
+          (ap (λ t. t.asked) c.next_part.ensures.rest) (limit_same g c.args.most b.rest b.rest refl);
     }
 
 pub take-requires-clause-parts : goal.take-requires-clause-parts

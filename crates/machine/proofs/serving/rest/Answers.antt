@@ -4,6 +4,7 @@ use Rattle.machine.proofs.Common.{Runs, Still, stand_of, standing}
 use Rattle.board.specs.State.{waiting}
 use Rattle.machine.specs.Ending.{IsHandedOn}
 use Rattle.machine.specs.Serving.{HasNoReply, is_write}
+use Rattle.machine.proofs.Limits.{limit_same}
 use Rattle.machine.proofs.Popping.{gives_up}
 use Rattle.machine.proofs.Runs.{runs_twice}
 use Rattle.machine.proofs.Goings.{ended_same, rest_needs, went_by}
@@ -16,7 +17,8 @@ returns-then-has_write c =
     let write = sym c.has_write.ensures ∙ c.if-has_write.true in
     record {
       went = λ most ended. went_by c.args.guest most t t b b _ (Still (stand_of t) b) tt
-          (inr (record { write = write; full = c.requires.left.0.room write })) refl refl;
+          (inr (record { write = write; full = c.requires.left.0.room write })) refl refl
+          (limit_same c.args.guest most b.rest b.rest refl);
     }
 
 pub returns : goal.returns
@@ -46,5 +48,6 @@ returns c =
           (c.begin.ensures.seen c.requires.left.2)
           (ap (λ r. is_write (next_call r.store.broken r.store.guests)) rest ∙ writes) none)
           tt c.begin.ensures.count
-          (ap (λ v. v.asked) c.take_next.ensures ∙ ap (λ v. v.asked) c.begin.ensures.turn);
+          (ap (λ v. v.asked) c.take_next.ensures ∙ ap (λ v. v.asked) c.begin.ensures.turn)
+          (limit_same g most b.rest b'.rest rest);
     }

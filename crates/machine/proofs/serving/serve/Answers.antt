@@ -2,11 +2,18 @@ use Rattle.std.proofs.Common.{inl, refl, subst, ◌∙◌, Some}
 use Rattle.machine.proofs.Common.{Still, stand_of}
 use Rattle.machine.specs.Ending.{Went}
 use Rattle.machine.proofs.Goings.{went_after, went_by}
+use Rattle.machine.proofs.Limits.{limit_same, limit_twice}
 use Rattle.machine.proofs.Runs.{runs_twice, then_does}
 use Rattle.machine.proofs.serving.serve.Goals as goal
 
 pub loop-move-init : goal.loop-move-init
-loop-move-init c = (Still (stand_of c.args.turn.now) c.args.board.now, refl, refl)
+loop-move-init c =
+    let b = c.args.board.now in (
+      Still (stand_of c.args.turn.now) b,
+      refl,
+      refl,
+      limit_same c.args.guest c.args.most b.rest b.rest refl,
+    )
 
 pub returns-in-Some : goal.returns-in-Some
 returns-in-Some c =
@@ -14,7 +21,7 @@ returns-in-Some c =
     record {
       went = went_after c.args.guest c.args.most c.args.turn.now l.turn c.move_on.new.turn
           c.args.board.now l.board c.move_on.new.board (Some c.in-Some.next) l.invariant.0
-          l.invariant.1 l.invariant.2
+          l.invariant.1 l.invariant.2 l.invariant.3
           (subst (λ n. Went c.args.guest c.args.most l.turn c.move_on.new.turn l.board
           c.move_on.new.board n) c.in-Some.is c.move_on.ensures.went);
     }
@@ -29,6 +36,8 @@ loop-move-preserved c =
           went.runs,
       went.count ∙ l.invariant.1,
       went.asked ∙ l.invariant.2,
+      limit_twice c.args.guest c.args.most c.args.board.now.rest l.board.rest
+          c.move_on.new.board.rest l.invariant.3 went.limit,
     )
 
 pub returns-in-Some-move_on : goal.returns-in-Some-move_on
@@ -38,7 +47,7 @@ returns-in-Some-move_on c =
     record {
       went = went_after c.args.guest c.args.most c.args.turn.now l.turn m.new.turn
           c.args.board.now l.board m.new.board (Some c.in-Some-move_on.next) l.invariant.0
-          l.invariant.1 l.invariant.2
+          l.invariant.1 l.invariant.2 l.invariant.3
           (subst (λ n. Went c.args.guest c.args.most l.turn m.new.turn l.board m.new.board n)
           c.in-Some-move_on.is m.ensures.went);
     }
@@ -58,5 +67,6 @@ returns-in-None c =
       went = went_by g c.args.most c.args.turn.now m.new.turn a m.new.board _
           (runs_twice g s t u a l.board m.new.board l.invariant.0 went.runs) tt
           (inl (then_does g s t u a l.board m.new.board l.invariant.0 went.busy))
-          (went.count ∙ l.invariant.1) (went.asked ∙ l.invariant.2);
+          (went.count ∙ l.invariant.1) (went.asked ∙ l.invariant.2)
+          (limit_twice g c.args.most a.rest l.board.rest m.new.board.rest l.invariant.3 went.limit);
     }

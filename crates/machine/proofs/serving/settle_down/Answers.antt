@@ -1,10 +1,11 @@
-use Rattle.std.proofs.Common.{◌≡◌, ℕ, [], Some, refl, ap, sym, subst, ◌∙◌, length, map}
+use Rattle.std.proofs.Common.{◌≡◌, ◌≤◌, ℕ, [], Some, inl, refl, ap, sym, subst, ◌∙◌, length, map}
 use Rattle.board.specs.State.{waiting}
 use Rattle.machine.proofs.Common.{Boards, Runs, Stand, stand_of, standing}
 use Rattle.machine.specs.Ending.{IsHandedOn, Lacks, NotifiesNext, left_by}
-use Rattle.machine.specs.Serving.{DoesSome, HasNoReply}
+use Rattle.machine.specs.Serving.{DoesSome, HasNoReply, KeepsLimit, KeepsWaiting}
 use Rattle.machine.proofs.Goings.{ended_same, notified_busy, notified_needs, went_after, went_by}
 use Rattle.machine.proofs.Handed.{handed_same}
+use Rattle.machine.proofs.Limits.{limit_kept, limit_twice}
 use Rattle.machine.proofs.Popping.{gives_up}
 use Rattle.machine.proofs.Runs.{runs_twice, then_does}
 use Rattle.machine.proofs.Waiting.{same_waits}
@@ -22,6 +23,19 @@ module _ (guest : ℕ) (a b d : Boards) (t : TurnState) (u : Stand) (none : t.pa
   handed_does rest = then_does guest (stand_of t) (stand_of t) u a b d (first (stand_of t))
       (subst (λ ps. DoesSome guest (standing ps t.going) b u d) (sym none) rest)
 
+-- handing on leaves how many wait, and a reply that leaves makes them no more
+module _ (guest most : ℕ) (a b d : Boards) (keeps : KeepsWaiting guest a.rest b.rest)
+    (less : waiting guest d.rest ≤ waiting guest b.rest) where
+  left_limit : KeepsLimit guest most a.rest d.rest
+  left_limit = limit_twice guest most a.rest b.rest d.rest
+      (limit_kept guest most a.rest b.rest keeps) (inl less)
+
+seen_limit : (guest most : ℕ) (a b d e : Boards) → KeepsWaiting guest a.rest b.rest
+    → waiting guest d.rest ≤ waiting guest b.rest → e.rest ≡ d.rest
+    → KeepsLimit guest most a.rest e.rest
+seen_limit guest most a b d e keeps less same =
+    subst (λ r. KeepsLimit guest most a.rest r) (sym same) (left_limit guest most a b d keeps less)
+
 pub returns-then-hand_all : goal.returns-then-hand_all
 returns-then-hand_all c =
     let t = c.args.turn.now in
@@ -29,7 +43,9 @@ returns-then-hand_all c =
       went = λ most ended. went_by c.args.guest most t t c.args.board.now c.hand_all.new.board _
           (c.hand_all.ensures.runs (stand_of t)) tt
           (c.hand_all.ensures.did c.if-hand_all.true (stand_of t))
-          (ap length c.hand_all.ensures.devices) refl;
+          (ap length c.hand_all.ensures.devices) refl
+          (limit_kept c.args.guest most c.args.board.now.rest c.hand_all.new.board.rest
+          c.hand_all.ensures.keeps);
     }
 
 pub returns-in-Asks : goal.returns-in-Asks
@@ -45,8 +61,9 @@ returns-in-Asks c =
           (subst (λ rs. Runs g (stand_of t) a rs l.new.board) (sym (ap stand_of c.go_to.ensures))
           (handed g a h.new.board l.new.board t _ c.requires.parts h.ensures.runs l.ensures.runs))
           (l.ensures.asks c.in-Asks.ask c.in-Asks.is) tt
-          (l.ensures.count ∙ ap length h.ensures.devices)
-          (ap (λ v. v.asked) c.go_to.ensures ∙ l.ensures.keeps.1);
+          (l.ensures.count.0 ∙ ap length h.ensures.devices)
+          (ap (λ v. v.asked) c.go_to.ensures ∙ l.ensures.keeps.1)
+          (left_limit g most a h.new.board l.new.board h.ensures.keeps l.ensures.count.1);
     }
 
 pub returns-in-Did : goal.returns-in-Did
@@ -66,8 +83,9 @@ returns-in-Did c =
           (subst (λ rs. DoesSome g (stand_of t) a rs l.new.board) same
           (handed_does g a h.new.board l.new.board t _ c.requires.parts h.ensures.runs
           (l.ensures.did c.in-Did.is)))
-          (l.ensures.count ∙ ap length h.ensures.devices)
-          (ap (λ v. v.asked) c.go_to-in-Did.ensures ∙ l.ensures.keeps.1);
+          (l.ensures.count.0 ∙ ap length h.ensures.devices)
+          (ap (λ v. v.asked) c.go_to-in-Did.ensures ∙ l.ensures.keeps.1)
+          (left_limit g most a h.new.board l.new.board h.ensures.keeps l.ensures.count.1);
     }
 
 pub returns-in-NoMemory : goal.returns-in-NoMemory
@@ -85,8 +103,9 @@ returns-in-NoMemory c =
           (handed g a h.new.board d t _ c.requires.parts h.ensures.runs l.ensures.runs)
           (gives_up g l.new.turn.parts l.new.turn.going (stand_of t') d
           (ap stand_of c.take_next.ensures)))
-          (Lacks refl) tt (l.ensures.count ∙ ap length h.ensures.devices)
-          (ap (λ v. v.asked) c.take_next.ensures ∙ l.ensures.keeps.1);
+          (Lacks refl) tt (l.ensures.count.0 ∙ ap length h.ensures.devices)
+          (ap (λ v. v.asked) c.take_next.ensures ∙ l.ensures.keeps.1)
+          (left_limit g most a h.new.board d h.ensures.keeps l.ensures.count.1);
     }
 
 -- the driver was notified, or isn't to be
@@ -121,8 +140,10 @@ returns-in-Some c =
           l.ensures.runs none n.ensures.runs))
           (notified_needs g most t'.parts e (Some c.in-Some.next) needs)
           (notified_busy g most (stand_of t) a e t' c.in-Some.next needs)
-          (n.ensures.count ∙ l.ensures.count ∙ ap length h.ensures.devices)
-          (n.ensures.asked ∙ l.ensures.keeps.1);
+          (n.ensures.count ∙ l.ensures.count.0 ∙ ap length h.ensures.devices)
+          (n.ensures.asked ∙ l.ensures.keeps.1)
+          (seen_limit g most a h.new.board l.new.board e h.ensures.keeps l.ensures.count.1
+          n.ensures.rest);
     }
 
 pub rest-requires-clause-left : goal.rest-requires-clause-left
@@ -158,8 +179,9 @@ returns-in-None c =
           (subst (λ o. Runs g (stand_of t) a (left_by o t') e) c.in-None.is
           (notified g a b d e t l.new.turn _ c.requires.parts h.ensures.runs l.ensures.runs none
           n.ensures.runs))
-          (n.ensures.count ∙ l.ensures.count ∙ ap length h.ensures.devices)
+          (n.ensures.count ∙ l.ensures.count.0 ∙ ap length h.ensures.devices)
           (n.ensures.asked ∙ l.ensures.keeps.1)
+          (seen_limit g most a b d e h.ensures.keeps l.ensures.count.1 rest)
           (c.rest.ensures.went most
           (ended_same g most d e f (n.ensures.none c.in-None.is).0
           (ap (λ r. r.jobs) rest, ap (λ r. waiting g r) rest)

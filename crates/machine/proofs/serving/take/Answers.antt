@@ -22,7 +22,7 @@ returns-in-Asks c =
       went = went_by g c.args.most c.args.turn.now o.turn c.args.board.now o.board _
           (from g c.args.turn.now c.args.board.now o.board _ c.requires.parts e.runs)
           (subst (λ k. IsTaken g c.args.most o.turn.parts o.board k) c.in-Asks.is e.taken).0
-          tt e.count e.keeps.1;
+          tt e.count e.keeps.1 e.limit;
     }
 
 pub returns-in-Some : goal.returns-in-Some
@@ -40,7 +40,7 @@ returns-in-Some c =
           (ap (λ v. standing (part ∷ t'.parts) v.going) c.next_part.ensures.rest
           ∙ ap (λ ps. standing ps o.turn.going) (sym c.in-Some.ensures.some))
           (from g t a o.board _ c.requires.parts e.runs))
-          tt tt e.count (ap (λ v. v.asked) c.next_part.ensures.rest ∙ e.keeps.1);
+          tt tt e.count (ap (λ v. v.asked) c.next_part.ensures.rest ∙ e.keeps.1) e.limit;
     }
 
 pub returns-in-None : goal.returns-in-None
@@ -65,7 +65,7 @@ returns-in-None c =
           (subst (λ v. DoesSome g (stand_of t) a (stand_of v) o.board) (sym none.1)
           (subst (λ ps. DoesSome g (standing ps t.going) a (stand_of o.turn) o.board)
           (sym c.requires.parts) does))
-          e.count (ap (λ v. v.asked) none.1 ∙ e.keeps.1);
+          e.count (ap (λ v. v.asked) none.1 ∙ e.keeps.1) e.limit;
     }
 
 pub settle_down-requires-clause-parts : goal.settle_down-requires-clause-parts
@@ -83,7 +83,7 @@ returns-in-Nothing c =
       went = went_after g c.args.most c.args.turn.now o.turn s.turn c.args.board.now o.board s.board
           c.settle_down.result
           (from g c.args.turn.now c.args.board.now o.board _ c.requires.parts e.runs)
-          e.count e.keeps.1
+          e.count e.keeps.1 e.limit
           (c.settle_down.ensures.went c.args.most
           (subst (λ k. IsTaken g c.args.most o.turn.parts o.board k) c.in-Nothing.is e.taken).0);
     }
@@ -103,7 +103,7 @@ returns-in-Refused c =
       went = went_after g c.args.most c.args.turn.now o.turn s.turn c.args.board.now o.board s.board
           c.settle_down-in-Refused.result
           (from g c.args.turn.now c.args.board.now o.board _ c.requires.parts e.runs)
-          e.count e.keeps.1
+          e.count e.keeps.1 e.limit
           (c.settle_down-in-Refused.ensures.went c.args.most
           (subst (λ k. IsTaken g c.args.most o.turn.parts o.board k) c.in-Refused.is e.taken).0);
     }

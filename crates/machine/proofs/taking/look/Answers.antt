@@ -1,4 +1,5 @@
-use Rattle.std.proofs.Common.{inl, inr, [], true}
+use Rattle.std.proofs.Common.{ap, arith, inl, inr, [], true}
+use Rattle.board.specs.State.{waiting}
 use Rattle.machine.proofs.Common.{stand_of, standing}
 use Rattle.machine.proofs.Runs.{runs_twice, then_does}
 use Rattle.machine.proofs.taking.look.Goals as goal
@@ -16,3 +17,9 @@ returns-clause-did c is = elim (c.pop.ensures.did is) [
       c.begin_pop.ensures.runs some)
   | inr parts ↦ inr parts
 ]
+
+pub returns-clause-waits : goal.returns-clause-waits
+returns-clause-waits c =
+    let more = c.pop.ensures.waits in
+    let same = ap (λ r. waiting c.args.guest r) c.begin_pop.ensures.rest in
+    omega (arith, more, same)

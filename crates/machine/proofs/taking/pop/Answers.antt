@@ -1,12 +1,15 @@
 use Rattle.std.proofs.Common.{inl, inr, refl, ap, sym, subst, ◌∙◌, [], Ok, Err, true, false}
+use Rattle.std.proofs.Common.{arith}
 use Rattle.machine.proofs.Common.{Makes, outbox_state, OutboxMakes, stand_of, standing}
 use Rattle.board.specs.Asking.{PopsAsked}
+use Rattle.board.specs.State.{waiting}
 use Rattle.board.specs.Steps.{did_answer}
 use Rattle.board.specs.declared.step.Seen.TheVariants.{Did, Nothing}
 use Rattle.board.specs.declared.step.Step.TheVariants as step
 use Rattle.board.specs.declared.step.StepFault.TheVariants as fault
 use Rattle.machine.specs.Ending.{IsTaken, Refuses}
 use Rattle.machine.specs.declared.taking.Taken.{Taken}
+use Rattle.machine.proofs.Limits.{popped_waits}
 use Rattle.machine.proofs.Popping.{found_none, gives_up, noted_at, pops_by, pops_does, some_at}
 use Rattle.machine.proofs.Popping.{still_by}
 use Rattle.machine.proofs.taking.pop.Goals as goal
@@ -85,8 +88,7 @@ returns-in-Ok-true-clause-did c is =
     inl (pops_does g _ _ (Ok Did) c.args.board.now c.pop.new.self device.0 device.1 makes refl
     (ap (λ t. t.parts) c.turn.view_is
     ∙ noted_at _ device.0 _ _ device.1 c.requires.parts
-    (c.note_event.ensures.noted c.if-not-note_event.false))
-    (λ same. absurd (let no = same in cc)))
+    (c.note_event.ensures.noted c.if-not-note_event.false)) refl)
 
 pub returns-in-Ok-false-clause-taken : goal.returns-in-Ok-false-clause-taken
 returns-in-Ok-false-clause-taken c most =
@@ -106,3 +108,23 @@ returns-in-Ok-false-clause-taken c most =
 
 pub returns-in-Ok-false-clause-did : goal.returns-in-Ok-false-clause-did
 returns-in-Ok-false-clause-did c is = inr (c.found_none.ensures.did is).1
+
+pub returns-in-Err-Missing-clause-waits : goal.returns-in-Err-Missing-clause-waits
+returns-in-Err-Missing-clause-waits c =
+    let asks = subst (λ e. PopsAsked outbox_state OutboxMakes c.args.guest (Err e)
+    c.args.board.now c.pop.new.self) c.in-Err-Missing.field-0-is c.in-Err-Missing.ensures.pops in
+    let same = ap (λ b. waiting c.args.guest b.rest) asks.same in omega (arith, same)
+
+pub returns-in-Err-Refused-clause-waits : goal.returns-in-Err-Refused-clause-waits
+returns-in-Err-Refused-clause-waits c =
+    popped_waits c.args.guest _ c.args.board.now c.pop.new.self
+    (subst (λ e. PopsAsked outbox_state OutboxMakes c.args.guest (Err e)
+    c.args.board.now c.pop.new.self) c.in-Err-Refused.field-0-is c.in-Err-Refused.ensures.pops)
+
+pub returns-in-Ok-true-clause-waits : goal.returns-in-Ok-true-clause-waits
+returns-in-Ok-true-clause-waits c =
+    popped_waits c.args.guest _ c.args.board.now c.pop.new.self c.in-Ok-true.ensures.pops
+
+pub returns-in-Ok-false-clause-waits : goal.returns-in-Ok-false-clause-waits
+returns-in-Ok-false-clause-waits c =
+    popped_waits c.args.guest _ c.args.board.now c.pop.new.self c.in-Ok-false.ensures.pops

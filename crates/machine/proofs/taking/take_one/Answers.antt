@@ -1,8 +1,9 @@
-use Rattle.std.proofs.Common.{ap, inl, inr, refl, subst, sym}
+use Rattle.std.proofs.Common.{ap, inl, inr, refl, rules, subst, sym}
 use Rattle.machine.proofs.Common.{stand_of, standing}
 use Rattle.machine.specs.Ending.{IsTaken}
 use Rattle.machine.specs.declared.taking.Taken.{Taken}
 use Rattle.machine.specs.Serving.{DoesSome}
+use Rattle.machine.proofs.Limits.{limit_one, limit_same}
 use Rattle.machine.proofs.Popping.{still_by}
 use Rattle.machine.proofs.taking.take_one.Goals as goal
 
@@ -28,3 +29,15 @@ returns-then-not-awaits_fewer-clause-runs c =
 
 pub returns-clause-taken : goal.returns-clause-taken
 returns-clause-taken c = c.look.ensures.taken c.args.most
+
+pub returns-then-not-awaits_fewer-clause-limit : goal.returns-then-not-awaits_fewer-clause-limit
+returns-then-not-awaits_fewer-clause-limit c =
+    let b = c.args.board.now.rest in limit_same c.args.guest c.args.most b b refl
+
+pub returns-then-is_some-clause-limit : goal.returns-then-is_some-clause-limit
+returns-then-is_some-clause-limit c = inl c.submit.ensures.waits
+
+pub returns-clause-limit : goal.returns-clause-limit
+returns-clause-limit c =
+    limit_one c.args.guest c.args.most c.args.board.now.rest c.look.new.board.rest
+    (search rules) c.look.ensures.waits

@@ -166,5 +166,5 @@ returns-clause-tells c =
     s.new.board s.new.bytes s.result c.served-2.result setup its
     (has_all m g c.index.result.now c.index_mut-turn.result.now device.0 setup its device.1)
     c.most-most.ensures c.served-2.ensures.next s.ensures.runs s.ensures.needs s.ensures.busy
-    c.served-2.ensures.sync
+    s.ensures.limit c.served-2.ensures.sync
     c.served-2.ensures.waiting))
