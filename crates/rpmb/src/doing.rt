@@ -13,7 +13,8 @@ use crate::system::System;
 use disk::FileDisk;
 use rpmb_client::{Choice, OptionRefusal, find_answer, option_nonce};
 use rpmb_commands::{
-    AnswerRefusal, Refusal, Words, check_own_key, key, perform, report, report_with_advice,
+    AnswerRefusal, FileRefusal, Refusal, Words, check_own_key, key, perform, report,
+    report_with_advice,
 };
 use script::read_number;
 use std::io::{BufWriter, Write};
@@ -59,7 +60,7 @@ fn text_of(rt: &HostRuntime, lines: Vec<u8>) -> Result<String, Stop>
 {
     match String::from_utf8(lines) {
         Ok(text) => Ok(text),
-        Err(_) => Err(told(rt, Refusal::NoText("lines in memory"))),
+        Err(_) => Err(told(rt, Refusal::File(FileRefusal::NoText, "lines in memory"))),
     }
 }
 

@@ -1,5 +1,5 @@
 //! Nonces: 16 random bytes.
-use rpmb_commands::Refusal;
+use rpmb_commands::{FileRefusal, Refusal, SourceError};
 use std::fs::File;
 use std::io;
 use std::io::Read;
@@ -21,6 +21,6 @@ pub fn random_nonce<'a>(rt: &HostRuntime) -> Result<String, Refusal<'a>> {
             Ok(digits) => Ok(digits),
             Err(_) => Err(Refusal::NoMemory),
         },
-        Err(_) => Err(Refusal::NoFile(RANDOM, "a read of it failed")),
+        Err(_) => Err(Refusal::File(FileRefusal::Unread(SourceError::Failed), RANDOM)),
     }
 }

@@ -35,12 +35,8 @@ refusal_of_digits (fault.BadHex why) = refusal.BadHex why
 refusal_of_digits (fault.BadLength count) = refusal.BadKey count
 
 abbrev pub refusal_of_file : Bor (List ℕ) → KeyFault → OptionRefusal
-refusal_of_file file key_fault.RawKey = refusal.RawKey file
-refusal_of_file file key_fault.ByteOrderMark = refusal.ByteOrderMark file
-refusal_of_file file key_fault.SecondLine = refusal.SecondLine file
 refusal_of_file file (key_fault.BadDigits fault.NoMemory) = refusal.NoMemory
-refusal_of_file file (key_fault.BadDigits (fault.BadHex why)) = refusal.BadHexFile file why
-refusal_of_file file (key_fault.BadDigits (fault.BadLength count)) = refusal.BadKeyFile file count
+refusal_of_file file why = refusal.KeyFile file why
 
 abbrev pub refusal_of_nonce : ValueFault → OptionRefusal
 refusal_of_nonce fault.NoMemory = refusal.NoMemory

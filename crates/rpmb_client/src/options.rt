@@ -91,12 +91,8 @@ fn refused_file<'a>(file: &'a str, fault: KeyFault) -> OptionRefusal<'a>
     ensures { result ≡ refusal_of_file file.entry fault }
 {
     match fault {
-        KeyFault::RawKey => OptionRefusal::RawKey(file),
-        KeyFault::ByteOrderMark => OptionRefusal::ByteOrderMark(file),
-        KeyFault::SecondLine => OptionRefusal::SecondLine(file),
         KeyFault::BadDigits(ValueFault::NoMemory) => OptionRefusal::NoMemory,
-        KeyFault::BadDigits(ValueFault::BadHex(why)) => OptionRefusal::BadHexFile(file, why),
-        KeyFault::BadDigits(ValueFault::BadLength(count)) => OptionRefusal::BadKeyFile(file, count),
+        _ => OptionRefusal::KeyFile(file, fault),
     }
 }
 

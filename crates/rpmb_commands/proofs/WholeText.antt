@@ -1,8 +1,8 @@
 -- Lines that came one after another are those of the whole text.
-use Rattle.std.proofs.Common.{◌≡◌, ◌≢◌, ◌∙◌, ℕ, Bool, true, false, List, [], ◌∷◌, ◌++◌, Option}
+use Rattle.std.proofs.Common.{◌≡◌, ◌∙◌, ℕ, Bool, true, false, List, [], ◌∷◌, ◌++◌, Option}
 use Rattle.std.proofs.Common.{Some, None, IfSome, nat_eq, refl, ap, sym, subst, cond, length}
 use Rattle.std.specs.Io.BufRead.{drop_through, take_through}
-use Rattle.std.specs.List.{onto_first, slice_split}
+use Rattle.std.specs.List.{onto_first}
 use Rattle.script.specs.Script.{lines_of}
 use Rattle.rpmb_client.specs.Answer.{and_then, answer_in, answer_of, only, replies_of, reply_of}
 use Rattle.rpmb_client.specs.Answer.{used_of}

@@ -8,8 +8,10 @@ use Rattle.rpmb_client.specs.declared.refusal.OptionRefusal.TheVariants as optio
 use Rattle.rpmb_commands.specs.Refusing.{refusal_of}
 use Rattle.rpmb_commands.specs.declared.reading.KeyWord.{KeyWord}
 use Rattle.rpmb_commands.specs.declared.reading.KeyWord.TheVariants as word
+use Rattle.rpmb_commands.specs.declared.refusal.FileRefusal.TheVariants as file
 use Rattle.rpmb_commands.specs.declared.refusal.Refusal.{Refusal}
 use Rattle.rpmb_commands.specs.declared.refusal.Refusal.TheVariants as refusal
+use Rattle.rpmb_commands.specs.declared.source.SourceError.{SourceError}
 
 -- 1. How a word says a key
 
@@ -53,8 +55,9 @@ SaysKey gives (Some said) key = SaysKeyIn gives said.now key
 
 -- why a file gives nothing, of which at most so many bytes are wanted
 pub data IsWhyNoContent (name : Bor (List ℕ)) (most : ℕ) (r : Refusal) : Type 0 where
-  content_file : (why : Bor (List ℕ)) → r ≡ refusal.NoFile name why → IsWhyNoContent name most r
-  content_length : r ≡ refusal.TooLong name most → IsWhyNoContent name most r
+  content_file : (why : SourceError) → r ≡ refusal.File (file.Unread why) name
+      → IsWhyNoContent name most r
+  content_length : r ≡ refusal.File (file.TooLong most) name → IsWhyNoContent name most r
   content_memory : r ≡ refusal.NoMemory → IsWhyNoContent name most r
 
 -- an option's refusal, for such a reason
@@ -67,7 +70,7 @@ pub record IsRefusedFor (Why : OptionRefusal → Type 0) (r : Refusal) : Type 0 
 pub data IsWhyNoKeyDigits (digits : Bor (List ℕ)) (r : Refusal) : Type 0 where
   digits_wrong : IsRefusedFor (IsWhyNoDigits digits.now) r → IsWhyNoKeyDigits digits r
   digits_file : (told : OptionRefusal) → IsWhyNoDigits digits.now told
-      → r ≡ refusal.FileName digits → IsWhyNoKeyDigits digits r
+      → r ≡ refusal.File file.BareName digits → IsWhyNoKeyDigits digits r
 
 -- the file isn't read, or has no key
 pub data IsWhyNoKeyFile (gives : List ℕ → List ℕ → Type 0) (name : Bor (List ℕ)) (r : Refusal)

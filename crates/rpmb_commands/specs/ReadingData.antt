@@ -8,7 +8,7 @@ use Rattle.script.specs.Script.{lines_of}
 use Rattle.rpmb_client.specs.Answer.{Read, Used, answer_in, blocks, no_frames, other_response}
 use Rattle.rpmb_client.specs.Answer.{read_of, refused, replies_of, wrong_mac, wrong_nonce}
 use Rattle.rpmb_client.specs.Blocks.{cut}
-use Rattle.rpmb_client.specs.Explained.{is_wrong, kind_text, result_text}
+use Rattle.rpmb_client.specs.Explained.{is_wrong}
 use Rattle.rpmb_client.specs.Finding.{IsFinder, counted}
 use Rattle.rpmb_client.specs.Options.{number_said}
 use Rattle.rpmb_client.specs.declared.choosing.Finder.{Finder}
@@ -88,12 +88,8 @@ IsTold key reply (blocks all) r = ⊥
 IsTold key reply no_frames r = r ≡ refusal.Answer (answer.NoFrames (length reply))
 IsTold key reply wrong_mac r = r ≡ no_right_mac (is_wrong reply (Some key) None)
 IsTold key reply wrong_nonce r = r ≡ refusal.Answer answer.WrongNonce
-IsTold key reply (other_response kind) r =
-    (text : Bor (List ℕ)) × (r ≡ refusal.Answer (answer.OtherResponse text))
-    × (text.now ≡ kind_text kind)
-IsTold key reply (refused code) r =
-    (text : Bor (List ℕ)) × (r ≡ refusal.Answer (answer.Refused text))
-    × (text.now ≡ result_text code)
+IsTold key reply (other_response kind) r = r ≡ refusal.Answer (answer.OtherResponse kind)
+IsTold key reply (refused code) r = r ≡ refusal.Answer (answer.Refused code)
 
 pub data WhyNotRead (key nonce reply : List ℕ) (r : Refusal) : Type 0 where
   read_memory : r ≡ refusal.NoMemory → WhyNotRead key nonce reply r

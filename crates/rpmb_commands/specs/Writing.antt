@@ -1,7 +1,7 @@
 -- The lines that `write` prints, by its words.
 use Rattle.std.specs.Prelude.{ℕ, ◌≡◌, ◌≢◌, ◌⊎◌, ◌<◌, ◌≤◌, ◌+◌, ◌-◌, ◌/◌, ◌%◌, not, Bool, true}
 use Rattle.std.specs.Prelude.{false}
-use Rattle.std.specs.Prelude.{List, Option, None, Some, Result, Ok, Err, IfErr, IsOk, OnOk, codes}
+use Rattle.std.specs.Prelude.{List, Option, None, Some, Result, Ok, Err, IfErr, IsOk, OnOk}
 use Rattle.std.specs.Prelude.{length}
 use Rattle.std.specs.Borrow.{Bor}
 use Rattle.std.specs.Simd.{first_chunks}
@@ -32,10 +32,8 @@ SaysContent gives None None content = ⊥
 abbrev pub IsWhyNoData : Option (Bor (List ℕ)) → Option (Bor (List ℕ)) → Refusal → Type 0
 IsWhyNoData (Some digits) None r = IsRefusedFor (IsWhyNoBytes digits.now) r
 IsWhyNoData None (Some name) r = IsWhyNoContent name 16777216 r
-IsWhyNoData (Some digits) (Some name) r =
-    (got : Bor (List ℕ)) × (r ≡ refusal.NoData got) × (got.now ≡ codes "both")
-IsWhyNoData None None r =
-    (got : Bor (List ℕ)) × (r ≡ refusal.NoData got) × (got.now ≡ codes "neither")
+IsWhyNoData (Some digits) (Some name) r = r ≡ refusal.TwoData
+IsWhyNoData None None r = r ≡ refusal.NoData
 
 -- with --pad zeros fill the last block
 abbrev pub Fills : Bool → List ℕ → List ℕ → Type 0

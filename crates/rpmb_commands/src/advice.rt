@@ -1,17 +1,11 @@
 //! What helps where words are refused: a line behind the refusal's own. No contract speaks of it.
 
-use crate::refusal::{AnswerRefusal, KeyRefusal, Refusal};
+use crate::refusal::{AnswerRefusal, FileRefusal, KeyRefusal, Refusal};
 use crate::results::help_with_result;
-use crate::source::{
-    BLOCKS_FILE, BOARD_FILE, IS_FOLDER, KEY_FILE, LONG_PATH, NO_PATH, NO_PERMISSION, NOT_THERE,
-    ROUND_LINKS,
-};
+use crate::source::{BLOCKS_FILE, BOARD_FILE, KEY_FILE, SourceError};
 use crate::words::Words;
-use rpmb_client::OptionRefusal;
+use rpmb_client::{KeyFault, OptionRefusal};
 use std::io::Write;
-
-/// Where the lines of a run come from.
-const INPUT: &str = "standard input";
 
 const NO_KEY: &str = "a key is 64 hex digits in @FILE, and nothing between or behind them, or 32 \
     bytes in @raw:FILE";
@@ -82,14 +76,14 @@ fn help_with_bytes(word: &str) -> &'static str {
 }
 
 /// Of the options that are read before others, the first whose word is no hex digits.
-fn advice_on_digits<'a>(words: &Words<'a>) -> Option<(&'a str, &'static str)> {
+fn advice_on_digits<'a>(words: &Words<'a>) -> (&'a str, &'static str) {
     if let Some(word) = bad_key(words) {
-        return Some(("--key", help_with_key(word, words.command == "explain")));
+        return ("--key", help_with_key(word, words.command == "explain"));
     }
     match (words.nonce, words.bytes) {
-        (Some(word), _) if !is_hex(word) => Some(("--nonce", help_with_nonce(word))),
-        (_, Some(word)) if !is_hex(word) => Some(("--data", help_with_bytes(word))),
-        _ => None,
+        (Some(word), _) if !is_hex(word) => ("--nonce", help_with_nonce(word)),
+        (_, Some(word)) if !is_hex(word) => ("--data", help_with_bytes(word)),
+        _ => ("", ""),
     }
 }
 
@@ -128,25 +122,16 @@ fn advice_on_no_name(words: &Words<'_>) -> (&'static str, &'static str) {
     ("--key", "the name of a file is missing behind @ or @raw:")
 }
 
-/// What helps where a file isn't read.
-fn help_with_file(words: &Words<'_>, name: &str, why: &str) -> &'static str {
+/// What helps where a file can't be read.
+fn help_with_reading(words: &Words<'_>, name: &str, why: SourceError) -> &'static str {
     match why {
-        NOT_THERE => help_with_name(words, name),
-        IS_FOLDER => "name a file in it",
-        NO_PERMISSION => "its owner may let you: chmod, or give you a copy",
-        NO_PATH => "mend the path",
-        ROUND_LINKS => "name the file itself",
-        LONG_PATH => "take a shorter one",
+        SourceError::NotThere => help_with_name(words, name),
+        SourceError::IsFolder => "name a file in it",
+        SourceError::NoPermission => "its owner may let you: chmod, or give you a copy",
+        SourceError::NoPath => "mend the path",
+        SourceError::RoundLinks => "name the file itself",
+        SourceError::LongPath => "take a shorter one",
         _ => "name another file, or mend this one",
-    }
-}
-
-/// What is said of a file that isn't read, and what helps.
-fn advice_on_file<'a>(words: &Words<'a>, name: &'a str, why: &str) -> (&'a str, &'static str) {
-    if name.is_empty() {
-        advice_on_no_name(words)
-    } else {
-        (name, help_with_file(words, name, why))
     }
 }
 
@@ -169,88 +154,85 @@ fn help_with_text(words: &Words<'_>, name: &str) -> &'static str {
     }
 }
 
-fn advice_on_option<'a>(
+/// What is said of a file that isn't taken, and what helps.
+fn advice_on_file<'a>(
     words: &Words<'a>,
-    refusal: OptionRefusal<'a>,
-) -> Option<(&'a str, &'static str)> {
+    refusal: FileRefusal,
+    name: &'a str,
+) -> (&'a str, &'static str) {
+    let helps = match refusal {
+        FileRefusal::Unread(_) if name.is_empty() => return advice_on_no_name(words),
+        FileRefusal::Unread(why) => help_with_reading(words, name, why),
+        FileRefusal::TooLong(most) => help_with_length(most),
+        FileRefusal::NoText => help_with_text(words, name),
+        FileRefusal::BadImage =>
+            "its key image names the image: name another, or put a whole copy of this board's \
+             there",
+        _ => "",
+    };
+    (name, helps)
+}
+
+/// What helps where a file's content is no key.
+fn help_with_key_file(fault: KeyFault) -> &'static str {
+    match fault {
+        KeyFault::ByteOrderMark => "save it without one",
+        KeyFault::SecondLine => "take away all but the digits, also what stands before them",
+        KeyFault::RawKey => "",
+        KeyFault::BadDigits(_) => NO_KEY,
+    }
+}
+
+fn advice_on_option<'a>(words: &Words<'a>, refusal: OptionRefusal<'a>) -> (&'a str, &'static str) {
     match refusal {
         OptionRefusal::BadHex(_) => advice_on_digits(words),
-        OptionRefusal::BadKeyFile(name, _) | OptionRefusal::BadRawKey(name, _) => {
-            Some((name, NO_KEY))
-        }
-        OptionRefusal::BadHexFile(name, _) => Some((name, NO_KEY)),
+        OptionRefusal::KeyFile(name, fault) => (name, help_with_key_file(fault)),
+        OptionRefusal::BadRawKey(name, _) => (name, NO_KEY),
         OptionRefusal::Number(_, word) if !word.is_empty() && !is_decimal(word) => {
-            Some((word, "decimal digits are wanted"))
+            (word, "decimal digits are wanted")
         }
-        OptionRefusal::ByteOrderMark(name) => Some((name, "save it without one")),
-        OptionRefusal::SecondLine(name) => Some((
-            name,
-            "take away all but the digits, also what stands before them",
-        )),
-        _ => None,
-    }
-}
-
-/// What helps where standard input hasn't the lines that are wanted there.
-fn help_with_input(refusal: AnswerRefusal) -> &'static str {
-    match refusal {
-        AnswerRefusal::NoReply(_) =>
-            "what `rpmbd run` prints is wanted here; did that end with a fault, or was its script \
-             empty?",
-        AnswerRefusal::NoAnswer(_, _) =>
-            "no line begins with `used` and is whole; explain tells of each line what it is",
-        AnswerRefusal::NoFrames(0) =>
-            "its request asked for none (--no-result), or needs WRITABLE 512 for each block",
-        _ => "rpmbd answers in whole frames; take its own line",
-    }
-}
-
-/// What helps where an answer isn't the one that was asked for.
-fn help_with_answer(refusal: AnswerRefusal) -> &'static str {
-    match refusal {
-        AnswerRefusal::NoAnswer(_, 0) =>
-            "no whole line answers the read of this nonce; explain tells of each line what it is",
-        AnswerRefusal::NoAnswer(_, _) => "each question wants a nonce of its own",
-        AnswerRefusal::WrongNonce => "it answers another question, or is an old answer",
-        _ => "the nonce of a read is wanted here",
+        _ => ("", ""),
     }
 }
 
 /// What helps where a key isn't the one that answers are judged by.
-fn help_with_keys(refusal: KeyRefusal<'_>) -> &'static str {
+fn help_with_keys(refusal: KeyRefusal) -> &'static str {
     match refusal {
         KeyRefusal::UnusedKey(_) =>
             "name the guest that the lines above name; its MAC wasn't looked at",
-        KeyRefusal::NamedKey(_, _) => NO_GUEST_KEY,
         _ => "G=KEY is the key of guest G alone, KEY of all others",
     }
 }
 
-fn advice_on_answer(refusal: AnswerRefusal) -> Option<(&'static str, &'static str)> {
-    Some(match refusal {
-        AnswerRefusal::NoReply(_) | AnswerRefusal::NoAnswer(0, _) | AnswerRefusal::NoFrames(_) => {
-            (INPUT, help_with_input(refusal))
-        }
-        AnswerRefusal::NoAnswer(_, _)
-        | AnswerRefusal::WrongNonce
-        | AnswerRefusal::OtherResponse(_) => ("--nonce", help_with_answer(refusal)),
-        AnswerRefusal::WrongMac => (
-            "--key",
-            "the guest has another key, somebody changed the answer, or the host's disk failed \
-             (explain says zeros)",
-        ),
-        AnswerRefusal::WrongAnswer(_, _, doubt) => ("the first of these", doubt.why),
-        AnswerRefusal::NoKey => (
-            "--guest",
-            "program-key gives it a key; if it has one, the host's disk failed",
-        ),
-        AnswerRefusal::TooShort(_, _) => (
-            "--length",
-            "ask for less, or read more blocks (--count)",
-        ),
+/// What is said where there is no answer, or not the one that was asked for.
+fn advice_on_answer(refusal: AnswerRefusal) -> &'static str {
+    match refusal {
+        AnswerRefusal::NoReply(_) =>
+            "standard input: what `rpmbd run` prints is wanted here; did that end with a fault, or \
+             was its script empty?",
+        AnswerRefusal::NoAnswer(0, _) =>
+            "standard input: no line begins with `used` and is whole; explain tells of each line \
+             what it is",
+        AnswerRefusal::NoFrames(0) =>
+            "standard input: its request asked for none (--no-result), or needs WRITABLE 512 for \
+             each block",
+        AnswerRefusal::NoFrames(_) =>
+            "standard input: rpmbd answers in whole frames; take its own line",
+        AnswerRefusal::NoAnswer(_, 0) =>
+            "--nonce: no whole line answers the read of this nonce; explain tells of each line \
+             what it is",
+        AnswerRefusal::NoAnswer(_, _) => "--nonce: each question wants a nonce of its own",
+        AnswerRefusal::WrongNonce => "--nonce: it answers another question, or is an old answer",
+        AnswerRefusal::OtherResponse(_) => "--nonce: the nonce of a read is wanted here",
+        AnswerRefusal::WrongMac =>
+            "--key: the guest has another key, somebody changed the answer, or the host's disk \
+             failed (explain says zeros)",
+        AnswerRefusal::NoKey =>
+            "--guest: program-key gives it a key; if it has one, the host's disk failed",
+        AnswerRefusal::TooShort(_, _) => "--length: ask for less, or read more blocks (--count)",
         AnswerRefusal::Refused(code) => help_with_result(code),
-        _ => return None,
-    })
+        _ => "",
+    }
 }
 
 /// What is said where what is printed isn't taken: of lines of a script or of an answer that a part
@@ -272,82 +254,60 @@ fn advice_on_room<'a>(words: &Words<'a>) -> (&'a str, &'static str) {
     }
 }
 
-/// What helps where what is to be written isn't what a partition takes, or what is read isn't what
-/// is wanted.
-fn advice_on_work<'a>(words: &Words<'a>, refusal: Refusal<'a>) -> Option<(&'a str, &'static str)> {
-    let data = words.file.unwrap_or("--data");
-    Some(match refusal {
-        Refusal::BadData(0) => (
-            data,
-            "has no byte, and --pad fills up none; give at least one",
-        ),
-        Refusal::BadData(_) => (
-            data,
-            "say --pad, and at the read --length with the number of bytes",
-        ),
-        Refusal::PastEnd(_) => (
-            "--address",
-            "with so many blocks behind it the last has no number; begin lower, or take fewer",
-        ),
-        Refusal::CounterEnd(_) => (
-            "--counter",
-            "so many writes have no counters left; take fewer, or a larger --max-blocks",
-        ),
-        Refusal::BadImage(_) => (
-            words.board.unwrap_or(""),
-            "its key image names the image: name another, or put a whole copy of this board's there",
-        ),
-        Refusal::LongLine(_) => (
-            INPUT,
-            "what `rpmbd run` or `rpmbd serve` prints is read here; no line of that is so long",
-        ),
-        Refusal::NoInput(_) => (
-            INPUT,
-            "give it what `rpmbd run` prints, by a pipe or from a file",
-        ),
-        _ => return None,
-    })
+/// What helps where what is to be written isn't what a partition takes, or what is said where
+/// standard input isn't what is wanted.
+fn advice_on_work(refusal: Refusal<'_>) -> &'static str {
+    match refusal {
+        Refusal::BadData(0) => "has no byte, and --pad fills up none; give at least one",
+        Refusal::BadData(_) => "say --pad, and at the read --length with the number of bytes",
+        Refusal::PastEnd(_) =>
+            "--address: with so many blocks behind it the last has no number; begin lower, or take \
+             fewer",
+        Refusal::CounterEnd(_) =>
+            "--counter: so many writes have no counters left; take fewer, or a larger --max-blocks",
+        Refusal::LongLine(_) =>
+            "standard input: what `rpmbd run` or `rpmbd serve` prints is read here; no line of \
+             that is so long",
+        Refusal::NoInput(_) =>
+            "standard input: give it what `rpmbd run` prints, by a pipe or from a file",
+        _ => "",
+    }
 }
 
 /// What is said of an answer. Of one to an operation on a board's image more is known, and told
 /// behind, or is no cause.
-fn advice_on_told(
-    is_operation: bool,
-    refusal: AnswerRefusal,
-) -> Option<(&'static str, &'static str)> {
-    if !is_operation {
-        return advice_on_answer(refusal);
-    }
+fn advice_on_told(is_operation: bool, refusal: AnswerRefusal) -> &'static str {
     match refusal {
-        AnswerRefusal::Refused(_) => None,
-        AnswerRefusal::WrongMac => Some((
-            "--key",
-            "the guest has another key, or somebody changed the answer",
-        )),
+        AnswerRefusal::Refused(_) if is_operation => "",
+        AnswerRefusal::WrongMac if is_operation =>
+            "--key: the guest has another key, or somebody changed the answer",
         _ => advice_on_answer(refusal),
     }
 }
 
-/// Which option or file a refusal of these words is of, and what helps.
-pub(crate) fn advice_of<'a>(
-    words: &Words<'a>,
-    refusal: Refusal<'a>,
-) -> Option<(&'a str, &'static str)> {
+/// Which option or file a refusal of these words is of, and what helps; nothing where that isn't
+/// known. Where only what helps is given, that is the whole line.
+pub(crate) fn advice_of<'a>(words: &Words<'a>, refusal: Refusal<'a>) -> (&'a str, &'static str) {
     match refusal {
         Refusal::Option(told) => advice_on_option(words, told),
-        Refusal::Key(told) => Some(("--key", help_with_keys(told))),
-        Refusal::Answer(told) => advice_on_told(words.operation.is_some(), told),
-        Refusal::NoFile(name, why) => Some(advice_on_file(words, name, why)),
-        Refusal::TooLong(name, most) => Some((name, help_with_length(most))),
-        Refusal::NoText(name) => Some((name, help_with_text(words, name))),
-        Refusal::NoRoom => Some(advice_on_room(words)),
-        _ => advice_on_work(words, refusal),
+        Refusal::Key(told) => ("--key", help_with_keys(told)),
+        Refusal::NamedKey(_, _) => ("--key", NO_GUEST_KEY),
+        Refusal::Answer(AnswerRefusal::WrongAnswer(_, _, doubt)) => {
+            ("the first of these", doubt.why.text())
+        }
+        Refusal::Answer(told) => ("", advice_on_told(words.operation.is_some(), told)),
+        Refusal::File(told, name) => advice_on_file(words, told, name),
+        Refusal::NoRoom => advice_on_room(words),
+        Refusal::BadData(_) => (words.file.unwrap_or("--data"), advice_on_work(refusal)),
+        _ => ("", advice_on_work(refusal)),
     }
 }
 
 /// Writes the line of an advice, where there is one.
-pub(crate) fn tell_advice<E: Write>(advice: Option<(&str, &str)>, err: &mut E) {
-    if let Some((what, helps)) = advice {
-        let _ = writeln!(err, "{what}: {helps}");
+pub(crate) fn tell_advice<E: Write>(advice: (&str, &str), err: &mut E) {
+    let (what, helps) = advice;
+    let colon = if what.is_empty() { "" } else { ": " };
+    if !helps.is_empty() {
+        let _ = writeln!(err, "{what}{colon}{helps}");
     }
 }

@@ -3,11 +3,11 @@ ghost use Rattle.std.specs.Prelude.{◌≡◌, ◌≢◌, ◌≤◌, ℕ, length
 ghost use Rattle.intent_slots.specs.Layout.{capacities_of};
 ghost use Rattle.rpmb_commands.specs.BoardImage.{IsImageOf};
 
-use crate::refusal::{Refusal, flawed};
-use crate::source::{Front, Source, SourceError};
+use crate::refusal::{FileRefusal, Refusal, flawed};
+use crate::source::{Front, Source};
 use intent_slots::{HeaderFault, Layout};
 use rpmb_frame::BoardConfig;
-use std::alloc::Global;
+use std::alloc::{AllocError, Global};
 
 /// How many bytes of an image say which version it is of: the last of them does.
 const VERSION_FRONT: u64 = 513;
@@ -69,15 +69,14 @@ fn found_at<S: Source>(alloc: Global, source: &S, board: &BoardConfig, path: &st
         Front::Absent | Front::NoFolder if has_shell_word(path) => Found::NotExpanded,
         Front::Absent => Found::NoFile,
         Front::NoFolder => Found::NoFolder,
-        Front::Unread(SourceError::NoFile(why)) => Found::NoImage(why),
-        Front::Unread(_) => Found::NoImage("can't be read"),
+        Front::Unread(why) => Found::NoImage(why.text()),
         Front::Read(front, length) => found_of(board, front.as_slice(), length),
     }
 }
 
-/// What is said behind the path of what is no wrong image.
-fn state_of(found: Found) -> &'static str {
-    match found {
+/// What is said behind the path of an image, unless it is a wrong one.
+fn state_of(found: Found) -> Option<&'static str> {
+    Some(match found {
         Found::NoFile =>
             ", which isn't there, seen from the folder that you are in: if there never was one, \
              rpmbd format makes it there",
@@ -87,26 +86,41 @@ fn state_of(found: Found) -> &'static str {
         Found::NotExpanded =>
             ", which isn't there: no ~ and no $ is expanded in a board file; write the whole path",
         Found::Image(2) => " of version 2",
-        _ => " of version 1",
+        Found::Image(_) => " of version 1",
+        Found::OtherLength(_, _) | Found::NoImage(_) => return None,
+    })
+}
+
+/// Why a file is no image of the board, or none of its length.
+fn words_of(alloc: Global, image: &str, found: Found) -> Result<String, AllocError> {
+    match found {
+        Found::OtherLength(length, whole) => {
+            format!(in alloc; "{image:?} has {length} bytes, an image of this board {whole}")
+        }
+        Found::NoImage(why) => format!(in alloc; "{image:?} {why}"),
+        _ => Ok(String::new(alloc)),
     }
 }
 
-/// What is said behind the path of an image, which may be none that is made yet. Refused for the
-/// flaw where it is there and none of this board.
+/// What is said behind the path of an image, which may be none that is made yet; nothing where a
+/// board names none. Refused for the flaw where it is there and none of this board.
 pub(crate) fn check_image<'a, S: Source>(
     alloc: Global,
     source: &S,
     file: &'a str,
     board: &BoardConfig,
-    image: &str,
+    image: Option<&str>,
     flaw: &mut String,
 ) -> Result<&'static str, Refusal<'a>> {
-    let words = match found_at(alloc, source, board, image) {
-        Found::NoImage(why) => format!(in alloc; "{image:?} {why}"),
-        Found::OtherLength(length, whole) => {
-            format!(in alloc; "{image:?} has {length} bytes, an image of this board {whole}")
-        }
-        found => return Ok(state_of(found)),
+    let Some(image) = image else {
+        return Ok("");
     };
-    Err(flawed(words, Refusal::BadImage(file), flaw))
+    let found = found_at(alloc, source, board, image);
+    match state_of(found) {
+        Some(state) => Ok(state),
+        None => {
+            let words = words_of(alloc, image, found);
+            Err(flawed(words, Refusal::File(FileRefusal::BadImage, file), flaw))
+        }
+    }
 }

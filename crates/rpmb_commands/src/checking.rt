@@ -1,7 +1,7 @@
 //! The command that says whether `rpmbd` reads a board file and a script.
 use crate::board_image::check_image;
-use crate::refusal::{Refusal, flawed};
-use crate::source::{BOARD_FILE, SCRIPT_FILE, Source, content_of};
+use crate::refusal::{FileRefusal, Refusal, flawed};
+use crate::source::{BOARD_FILE, SCRIPT_FILE, Source, SourceError, content_of};
 use crate::words::Words;
 use board_file::{BoardError, read_board};
 use rpmb_client::OptionRefusal;
@@ -15,12 +15,9 @@ use std::io::Write;
 /// largest memory of a guest, has fewer.
 const LINE_BYTES: usize = 134_217_760;
 
-const LONG_LINE: &str = "has a line of 134217760 bytes and more, and is no script";
-
-/// A board, its file, and the path of its image, where it names one.
+/// A board, and the path of its image, where it names one.
 #[derive(Drop)]
-struct Board<'a> {
-    file: &'a str,
+struct Board {
     config: BoardConfig,
     image: Option<String>,
 }
@@ -30,19 +27,15 @@ fn board_in<'a>(
     file: &'a str,
     bytes: &[u8],
     flaw: &mut String,
-) -> Result<Board<'a>, Refusal<'a>> {
+) -> Result<Board, Refusal<'a>> {
     let Ok(text) = str::from_utf8(bytes) else {
-        return Err(Refusal::NoText(file));
+        return Err(Refusal::File(FileRefusal::NoText, file));
     };
     match read_board(alloc, text) {
-        Ok((config, image)) => Ok(Board {
-            file,
-            config,
-            image,
-        }),
+        Ok((config, image)) => Ok(Board { config, image }),
         Err(BoardError::BadBoard(words)) => {
             *flaw = words;
-            Err(Refusal::BadBoard(file))
+            Err(Refusal::File(FileRefusal::BadBoard, file))
         }
         Err(BoardError::NoMemory) => Err(Refusal::NoMemory),
     }
@@ -53,7 +46,7 @@ fn check_board<'a, S: Source>(
     source: &S,
     file: &'a str,
     flaw: &mut String,
-) -> Result<Board<'a>, Refusal<'a>> {
+) -> Result<Board, Refusal<'a>> {
     let bytes = content_of(alloc, source, file, BOARD_FILE)?;
     board_in(alloc, file, bytes.as_slice(), flaw)
 }
@@ -79,7 +72,7 @@ fn check_stores<'a>(
         if let Some(memory) = left_memory(board, line) {
             let text = "the store reaches beyond its guest's memory, which has";
             let words = format!(in alloc; "line {number}: {text} {memory} bytes");
-            return Err(flawed(words, Refusal::BadScript(file), flaw));
+            return Err(flawed(words, Refusal::File(FileRefusal::BadScript, file), flaw));
         }
     }
     Ok(())
@@ -96,7 +89,7 @@ fn check_text<'a>(
         Ok(lines) => check_stores(alloc, file, board, lines.as_slice(), flaw),
         Err(ScriptError::BadScript { line, flaw: why }) => {
             let words = format!(in alloc; "line {line}: {why}");
-            Err(flawed(words, Refusal::BadScript(file), flaw))
+            Err(flawed(words, Refusal::File(FileRefusal::BadScript, file), flaw))
         }
         Err(ScriptError::NoMemory) => Err(Refusal::NoMemory),
     }
@@ -120,24 +113,30 @@ fn check_lines<'a>(
     flaw: &mut String,
 ) -> Result<bool, Refusal<'a>> {
     let Ok(text) = str::from_utf8(bytes) else {
-        return Err(Refusal::NoText(file));
+        return Err(Refusal::File(FileRefusal::NoText, file));
     };
     if text.split('\n').any(|line| line.len() >= LINE_BYTES) {
-        return Err(Refusal::NoFile(file, LONG_LINE));
+        let fault = FileRefusal::Unread(SourceError::LongLine);
+        return Err(Refusal::File(fault, file));
     }
     check_text(alloc, file, text, board, flaw)?;
     Ok(is_cut(text))
 }
 
-fn check_script<'a, S: Source>(
+/// The script, where one is named and may have been cut.
+fn cut_script<'a, S: Source>(
     alloc: Global,
     source: &S,
-    file: &'a str,
+    script: Option<&'a str>,
     board: &BoardConfig,
     flaw: &mut String,
-) -> Result<bool, Refusal<'a>> {
+) -> Result<Option<&'a str>, Refusal<'a>> {
+    let Some(file) = script else {
+        return Ok(None);
+    };
     let bytes = content_of(alloc, source, file, SCRIPT_FILE)?;
-    check_lines(alloc, file, bytes.as_slice(), board, flaw)
+    let is_cut = check_lines(alloc, file, bytes.as_slice(), board, flaw)?;
+    Ok(if is_cut { Some(file) } else { None })
 }
 
 /// Writes of each guest of a board its capacity.
@@ -152,30 +151,34 @@ fn write_guests<W: Write>(board: &BoardConfig, out: &mut W) -> io::Result<()> {
     Ok(())
 }
 
-/// Writes what a board is good for, with what is said of its image, where it names one.
-fn write_board<W: Write>(
-    board: &BoardConfig,
-    image: Option<(&str, &str)>,
-    out: &mut W,
-) -> io::Result<()> {
-    let count = board.guests().len();
+/// Writes how many guests a board has, and its image with what is said of that, where it names one.
+fn write_board<W: Write>(board: &Board, state: &str, out: &mut W) -> io::Result<()> {
+    let count = board.config.guests().len();
     let guests = if count == 1 { "guest" } else { "guests" };
-    match image {
-        Some((path, state)) => writeln!(out, "ok: {count} {guests}, image {path:?}{state}")?,
+    match board.image.as_deref() {
+        Some(path) => writeln!(out, "ok: {count} {guests}, image {path:?}{state}"),
         None => {
             let kept = "in memory: format, show and upgrade refuse it";
-            writeln!(out, "ok: {count} {guests}, {kept}")?;
+            writeln!(out, "ok: {count} {guests}, {kept}")
         }
     }
-    write_guests(board, out)
 }
 
-/// Says of a script that it may have been cut.
-fn write_cut<'a, W: Write>(file: &str, out: &mut W) -> Result<(), Refusal<'a>> {
-    let why = "the last line has no line feed; if the file was cut, that line isn't whole";
-    match writeln!(out, "{file}: {why}") {
-        Ok(()) => Ok(()),
-        Err(_) => Err(Refusal::NoRoom),
+/// Writes what a board is good for, and of the script that it may have been cut.
+fn write_checked<W: Write>(
+    board: &Board,
+    state: &str,
+    cut: Option<&str>,
+    out: &mut W,
+) -> io::Result<()> {
+    write_board(board, state, out)?;
+    write_guests(&board.config, out)?;
+    match cut {
+        Some(file) => {
+            let why = "the last line has no line feed; if the file was cut, that line isn't whole";
+            writeln!(out, "{file}: {why}")
+        }
+        None => Ok(()),
     }
 }
 
@@ -184,28 +187,18 @@ fn write_cut<'a, W: Write>(file: &str, out: &mut W) -> Result<(), Refusal<'a>> {
 fn check_on<'a, S: Source, W: Write>(
     alloc: Global,
     source: &S,
-    script: Option<&'a str>,
-    board: &Board<'a>,
+    files: (&'a str, Option<&'a str>),
+    board: &Board,
     flaw: &mut String,
     out: &mut W,
 ) -> Result<(), Refusal<'a>> {
-    let is_cut = match script {
-        Some(script) => check_script(alloc, source, script, &board.config, flaw)?,
-        None => false,
-    };
-    let image = match board.image.as_deref() {
-        Some(path) => {
-            let state = check_image(alloc, source, board.file, &board.config, path, flaw)?;
-            Some((path, state))
-        }
-        None => None,
-    };
-    if write_board(&board.config, image, out).is_err() {
-        return Err(Refusal::NoRoom);
-    }
-    match script {
-        Some(script) if is_cut => write_cut(script, out),
-        _ => Ok(()),
+    let (file, script) = files;
+    let cut = cut_script(alloc, source, script, &board.config, flaw)?;
+    let image = board.image.as_deref();
+    let state = check_image(alloc, source, file, &board.config, image, flaw)?;
+    match write_checked(board, state, cut, out) {
+        Ok(()) => Ok(()),
+        Err(_) => Err(Refusal::NoRoom),
     }
 }
 
@@ -223,5 +216,5 @@ pub fn check<'a, S: Source, W: Write>(
         return Err(Refusal::Option(OptionRefusal::Incomplete));
     };
     let board = check_board(alloc, source, file, flaw)?;
-    check_on(alloc, source, words.script, &board, flaw, out)
+    check_on(alloc, source, (file, words.script), &board, flaw, out)
 }

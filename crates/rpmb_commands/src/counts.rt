@@ -1,7 +1,7 @@
 //! What was found in replies.
 ghost use Rattle.std.specs.Prelude.{◌≡◌, ◌||◌, false, nat_lt, true};
 
-use crate::doubts::Doubt;
+use crate::doubts::{Doubt, Wrong};
 use rpmb_client::{Keys, Used};
 use rpmb_frame::Frame;
 
@@ -99,7 +99,10 @@ impl Counts {
             wrong: 0,
             refused: 0,
             has_answer: false,
-            doubt: Doubt { line: 0, why: "" },
+            doubt: Doubt {
+                line: 0,
+                why: Wrong::Torn,
+            },
             lines: 0,
             guests: 0,
             has_stranger: false,
@@ -108,7 +111,7 @@ impl Counts {
     }
 
     /// Counts a line that is wrong, or isn't, for this reason.
-    fn add_line(&mut self, is_wrong: bool, why: &'static str)
+    fn add_line(&mut self, is_wrong: bool, why: Wrong)
         ensures wrong { nat_lt 0 self.new.wrong ≡ (nat_lt 0 self.old.wrong || is_wrong) }
         ensures refused { self.new.refused ≡ self.old.refused }
         ensures answer { self.new.has_answer ≡ self.old.has_answer }
@@ -122,7 +125,7 @@ impl Counts {
     }
 
     /// Counts a reply, and keeps what is wrong with it, where it is the first that is.
-    pub fn add(&mut self, used: &Used, is_wrong: bool, is_refused: bool, why: &'static str)
+    pub fn add(&mut self, used: &Used, is_wrong: bool, is_refused: bool, why: Wrong)
         ensures wrong { nat_lt 0 self.new.wrong ≡ (nat_lt 0 self.old.wrong || is_wrong) }
         ensures refused { nat_lt 0 self.new.refused ≡ (nat_lt 0 self.old.refused || is_refused) }
         ensures answer { self.new.has_answer ≡ true }
@@ -137,7 +140,7 @@ impl Counts {
     }
 
     /// Counts a line that gives no reply, where it is no answer: torn, or of a script.
-    pub fn add_unread(&mut self, is_no_answer: bool, why: &'static str)
+    pub fn add_unread(&mut self, is_no_answer: bool, why: Wrong)
         ensures wrong { nat_lt 0 self.new.wrong ≡ (nat_lt 0 self.old.wrong || is_no_answer) }
         ensures refused { self.new.refused ≡ self.old.refused }
         ensures answer { self.new.has_answer ≡ self.old.has_answer }

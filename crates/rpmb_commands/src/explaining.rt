@@ -15,7 +15,7 @@ use crate::counts::{Counts, unused_key};
 use crate::doubts::{doubt_of, doubt_of_line};
 use crate::keys::keys_of;
 use crate::other_line::{is_no_answer, write_other};
-use crate::refusal::{AnswerRefusal, KeyRefusal, Refusal};
+use crate::refusal::{AnswerRefusal, InputFault, KeyRefusal, Refusal};
 use crate::source::Source;
 use crate::values::nonce_of;
 use crate::words::Words;
@@ -127,14 +127,14 @@ fn explain_line<'a, W: Write>(
 const CLOSED: i32 = 9;
 
 /// What standard input gives in place of lines.
-fn why_no_lines(error: &io::Error) -> &'static str {
+fn why_no_lines(error: &io::Error) -> InputFault {
     if error.raw_os_error() == Some(CLOSED) {
-        return "none: it is closed";
+        return InputFault::Closed;
     }
     match error.kind() {
-        io::ErrorKind::InvalidData => "bytes that are none",
-        io::ErrorKind::IsADirectory => "a folder",
-        _ => "a read of it that failed",
+        io::ErrorKind::InvalidData => InputFault::NoText,
+        io::ErrorKind::IsADirectory => InputFault::Folder,
+        _ => InputFault::Unread,
     }
 }
 
@@ -199,7 +199,7 @@ fn tell_each<'a, B: BufRead, W: Write>(
         explain_line(alloc, without_end(line.as_str()), judge, &mut counts, out)?;
     }
     // No input has so many lines.
-    Err(Refusal::NoInput("more than there are numbers for"))
+    Err(Refusal::NoInput(InputFault::TooMany))
 }
 
 fn tell_lines<'a, B: BufRead, W: Write>(

@@ -39,7 +39,7 @@ pub fn check_own_key<'a>(words: &Words<'a>) -> Result<(), Refusal<'a>> {
         return Ok(());
     };
     match guest_number(guest) {
-        Some(named) => Err(Refusal::Key(KeyRefusal::NamedKey(named, words.guest.unwrap_or("")))),
+        Some(named) => Err(Refusal::NamedKey(named, words.guest.unwrap_or(""))),
         None => Ok(()),
     }
 }

@@ -29,6 +29,6 @@ pub use keys::check_own_key;
 pub use line_limit::LineLimit;
 pub use performing::{perform, report, report_with_advice};
 pub use reading::key;
-pub use refusal::{AnswerRefusal, KeyRefusal, Refusal};
+pub use refusal::{AnswerRefusal, FileRefusal, InputFault, KeyRefusal, Refusal};
 pub use source::{Front, Source, SourceError, is_file, read_file, read_front};
 pub use words::{Words, WordsError, read_words};

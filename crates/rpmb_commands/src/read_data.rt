@@ -13,13 +13,11 @@ ghost use Rattle.rpmb_commands.specs.Refusing.{IsOfReading, KeepsUnless};
 
 use crate::explaining::{next_line, without_end};
 use crate::reading::key;
-use crate::refusal::{AnswerRefusal, Refusal};
+use crate::refusal::{AnswerRefusal, InputFault, Refusal};
 use crate::source::Source;
 use crate::values::{length_of, nonce_of};
 use crate::words::Words;
-use rpmb_client::{
-    Choice, Finder, ReadAnswer, Used, cut, is_wrong, kind_text, read_data, result_text,
-};
+use rpmb_client::{Choice, Finder, ReadAnswer, Used, cut, is_wrong, read_data};
 use std::alloc::Global;
 use std::io::{BufRead, Write};
 
@@ -55,7 +53,7 @@ fn seek<'a, B: BufRead>(
         take_line(alloc, line.as_str(), &mut finder)?;
     }
     // No input has so many lines.
-    Err(Refusal::NoInput("more than there are numbers for"))
+    Err(Refusal::NoInput(InputFault::TooMany))
 }
 
 /// The answer among the lines: the only reply, or else the only one with the nonce.
@@ -151,12 +149,10 @@ fn blocks_of<'a>(key: &[u8; 32], used: &Used, read: ReadAnswer) -> Result<Vec<u8
         ReadAnswer::NoFrames => Err(Refusal::Answer(AnswerRefusal::NoFrames(used.reply.len()))),
         ReadAnswer::WrongMac => Err(no_right_mac(is_wrong(used, Some(*key), None))),
         ReadAnswer::WrongNonce => Err(Refusal::Answer(AnswerRefusal::WrongNonce)),
-        ReadAnswer::OtherResponse(kind) => Err(Refusal::Answer(AnswerRefusal::OtherResponse(
-            kind_text(kind),
-        ))),
-        ReadAnswer::Refused(code) => Err(Refusal::Answer(AnswerRefusal::Refused(result_text(
-            code,
-        )))),
+        ReadAnswer::OtherResponse(kind) => {
+            Err(Refusal::Answer(AnswerRefusal::OtherResponse(kind)))
+        }
+        ReadAnswer::Refused(code) => Err(Refusal::Answer(AnswerRefusal::Refused(code))),
     }
 }
 

@@ -5,7 +5,7 @@ ghost use Rattle.rpmb_commands.specs.KeySaid.{IsKey, IsKeyInFile, IsKeyWord, IsN
 ghost use Rattle.rpmb_commands.specs.KeySaid.{IsWhyNoKeyDigits, IsWhyNoKeyFile, IsWhyNoKeySaid};
 ghost use Rattle.rpmb_commands.specs.KeySaid.{IsWhyNoRawKeyFile, IsWhyNot, SaysKey};
 
-use crate::refusal::Refusal;
+use crate::refusal::{FileRefusal, Refusal};
 use crate::source::{KEY_FILE, Source, content_of};
 use rpmb_client::{OptionRefusal, key_of_file, key_of_raw_file, key_of_word};
 use std::alloc::Global;
@@ -82,7 +82,7 @@ fn key_in_digits<'a, S: Source>(
     match key_of_word(alloc, word) {
         Ok(key) => Ok(key),
         Err(OptionRefusal::NoMemory) => Err(Refusal::NoMemory),
-        Err(_) if source.is_file(word) => Err(Refusal::FileName(word)),
+        Err(_) if source.is_file(word) => Err(Refusal::File(FileRefusal::BareName, word)),
         Err(told) => Err(Refusal::from(told)),
     }
 }

@@ -3,7 +3,8 @@ ghost use Rattle.std.specs.Prelude.{◌≡◌};
 ghost use Rattle.rpmb_commands.specs.Refusing.{refusal_of_fault, refusal_status};
 
 use crate::doubts::Doubt;
-use rpmb_client::{ClientFault, OptionRefusal};
+use crate::source::SourceError;
+use rpmb_client::{ClientFault, OptionRefusal, kind_text, result_text};
 use std::alloc::AllocError;
 use std::convert::From;
 use std::fmt;
@@ -11,7 +12,7 @@ use thiserror::Error;
 
 /// Why a word of a key is none of those that are wanted.
 #[derive(Clone, Copy, Debug, Error)]
-pub enum KeyRefusal<'a> {
+pub enum KeyRefusal {
     #[error("BadKey: expected for --key one key for each guest, got a second one for guest {0}")]
     SecondKey(u64),
     #[error("BadKey: expected for --key one key for all other guests, got a second one")]
@@ -20,10 +21,6 @@ pub enum KeyRefusal<'a> {
     #[error("BadKey: expected for --key KEY, or G=KEY with a guest G from 0 to 63, got another \
         word before its =")]
     NoGuest,
-    /// A key is named for a guest, where one operation on one guest is asked for.
-    #[error("BadKey: expected for --key the key of guest {1} alone, as KEY, got G=KEY that is \
-        named for guest {0}")]
-    NamedKey(u64, &'a str),
     /// A key is named for a guest that gave no answer, and guests that gave one have no key.
     #[error("BadKey: expected for --key the keys of the guests that answer, got one that is named \
         for guest {0}, of whom no answer came")]
@@ -46,11 +43,12 @@ pub enum AnswerRefusal {
     NoKey,
     #[error("WrongNonce: expected the nonce that was asked with, got another")]
     WrongNonce,
-    #[error("OtherResponse: expected the response DATA_READ, got the {0}")]
-    OtherResponse(&'static str),
-    /// The read has another result than OK.
-    #[error("Refused: expected the result OK, got {0}")]
-    Refused(&'static str),
+    /// The response has this type.
+    #[error("OtherResponse: expected the response DATA_READ, got the {got}", got = kind_text(*.0))]
+    OtherResponse(u16),
+    /// The read has this result, and not OK.
+    #[error("Refused: expected the result OK, got {got}", got = result_text(*.0))]
+    Refused(u16),
     /// A reading of the write counter whose MAC, nonce and result are right has none.
     #[error("NoCounter: expected the write counter in the reply, got another one")]
     NoCounter,
@@ -71,23 +69,107 @@ pub enum AnswerRefusal {
     RefusedAnswer(u64, u64, u64),
 }
 
+/// Why a file isn't taken.
+#[derive(Clone, Copy)]
+pub enum FileRefusal {
+    Unread(SourceError),
+    /// It has more bytes than this.
+    TooLong(usize),
+    NoText,
+    /// A word of a key isn't one, and a file has its name.
+    BareName,
+    /// Of this and the two that follow the flaw is told behind, in words.
+    BadBoard,
+    BadScript,
+    /// The image that the board file names is there, and is none of that board.
+    BadImage,
+}
+
+/// A file's refusal and its name, as they are told.
+#[derive(Clone, Copy)]
+struct FileTold<'a>(FileRefusal, &'a str);
+
+impl<'a> fmt::Display for FileTold<'a> {
+    fn fmt<W: fmt::Write>(&self, f: &mut fmt::Formatter<W>) -> fmt::Result {
+        let name = self.1;
+        let (front, colon, end) = match self.0 {
+            FileRefusal::Unread(why) => {
+                (
+                    "FileFault: expected a file that can be read, got",
+                    ": ",
+                    why.text(),
+                )
+            }
+            FileRefusal::TooLong(most) => {
+                let wanted = "bytes in the file";
+                return write!(
+                    f,
+                    "FileFault: expected at most {most} {wanted} {name:?}, got more"
+                );
+            }
+            FileRefusal::NoText => ("FileFault: expected text in UTF-8 in the file", "", ""),
+            FileRefusal::BareName => {
+                let got = "got the name of a file; a file is named behind an @:";
+                return write!(
+                    f,
+                    "BadKey: expected for --key 32 bytes in hex digits, {got} @{name}"
+                );
+            }
+            FileRefusal::BadBoard => ("BadBoard: the board file", ": ", ""),
+            FileRefusal::BadScript => ("BadScript: the script", ": ", ""),
+            FileRefusal::BadImage => ("BadImage: the image of the board file", ": ", ""),
+        };
+        write!(f, "{front} {name:?}{colon}{end}")
+    }
+}
+
+/// What standard input gives in place of lines.
+#[derive(Clone, Copy)]
+pub enum InputFault {
+    Closed,
+    NoText,
+    Folder,
+    Unread,
+    /// No input has so many lines.
+    TooMany,
+}
+
+impl InputFault {
+    fn text(self) -> &'static str {
+        match self {
+            Self::Closed => "none: it is closed",
+            Self::NoText => "bytes that are none",
+            Self::Folder => "a folder",
+            Self::Unread => "a read of it that failed",
+            Self::TooMany => "more than there are numbers for",
+        }
+    }
+}
+
 /// Why nothing more is printed. Each is told by its name, what was expected, and what stands there;
 /// of a key only how long it is.
+// for the checker: it spells out, at each step of a function, the types of all values that may hold
+// a reference; so only words are references here, and as few as may be
 #[derive(Clone, Copy, Error)]
 pub enum Refusal<'a> {
     /// An option that the command needs gives no value.
     #[error(transparent)]
     Option(OptionRefusal<'a>),
     #[error(transparent)]
-    Key(KeyRefusal<'a>),
+    Key(KeyRefusal),
+    /// A key is named for a guest, where one operation on one guest is asked for.
+    #[error("BadKey: expected for --key the key of guest {1} alone, as KEY, got G=KEY that is \
+        named for guest {0}")]
+    NamedKey(u64, &'a str),
     #[error(transparent)]
     Answer(AnswerRefusal),
-    /// A word of a key isn't one, and a file has its name.
-    #[error("BadKey: expected for --key 32 bytes in hex digits, got the name of a file; \
-        a file is named behind an @: @{0}")]
-    FileName(&'a str),
-    #[error("NoData: expected either --data or --file, got {0}")]
-    NoData(&'static str),
+    /// What is wrong with a file, and its name.
+    #[error("{told}", told = FileTold(*.0, .1))]
+    File(FileRefusal, &'a str),
+    #[error("NoData: expected either --data or --file, got neither")]
+    NoData,
+    #[error("NoData: expected either --data or --file, got both")]
+    TwoData,
     #[error("BadData: expected whole blocks of 256 bytes, at least one, got {0} bytes; \
          --pad fills a last block with zeros")]
     BadData(usize),
@@ -95,16 +177,8 @@ pub enum Refusal<'a> {
     PastEnd(u64),
     #[error("CounterEnd: expected write counters of at most 4294967295 for all writes, got {0}")]
     CounterEnd(u64),
-    /// The file, and why it can't be read.
-    #[error("FileFault: expected a file that can be read, got {0:?}: {1}")]
-    NoFile(&'a str, &'static str),
-    #[error("FileFault: expected at most {1} bytes in the file {0:?}, got more")]
-    TooLong(&'a str, usize),
-    #[error("FileFault: expected text in UTF-8 in the file {0:?}")]
-    NoText(&'a str),
-    /// What standard input gives in place of lines.
-    #[error("FileFault: expected lines in UTF-8 on standard input, got {0}")]
-    NoInput(&'static str),
+    #[error("FileFault: expected lines in UTF-8 on standard input, got {got}", got = .0.text())]
+    NoInput(InputFault),
     /// The line of this number on standard input has more bytes than any that is wanted there.
     #[error("FileFault: expected the lines that `rpmbd run` or `rpmbd serve` prints on standard \
         input, got more than 32768 bytes in line {0}")]
@@ -113,14 +187,6 @@ pub enum Refusal<'a> {
     NoRoom,
     #[error("NoMemory")]
     NoMemory,
-    /// Of this and the two that follow the flaw is told behind, in words.
-    #[error("BadBoard: the board file {0:?}: ")]
-    BadBoard(&'a str),
-    #[error("BadScript: the script {0:?}: ")]
-    BadScript(&'a str),
-    /// The image that a board file names is there, and is none of that board.
-    #[error("BadImage: the image of the board file {0:?}: ")]
-    BadImage(&'a str),
 }
 
 /// A refusal for a flaw, whose words are put into `flaw`.

@@ -41,16 +41,14 @@ static RESULTS: [(u16, &str, &str); 7] = [
     ),
 ];
 
-/// What helps where the device refused a read with this result.
-pub(crate) fn help_with_result(code: &str) -> (&'static str, &'static str) {
+/// What is said where the device refused a read with this result.
+pub(crate) fn help_with_result(code: u16) -> &'static str {
     match code {
-        "ADDR_FAILURE" => ("--address", "the blocks end behind the guest's last one"),
-        "GENERAL_FAILURE" => (
-            "--count",
-            "more than max_rd_cnt of its [[guest]] in the board file (16 where it has none), or \
-             than WRITABLE of its chain has room for",
-        ),
-        _ => ("the read", "ask for the counter, whose answer says more"),
+        0x0004 => "--address: the blocks end behind the guest's last one",
+        0x0001 =>
+            "--count: more than max_rd_cnt of its [[guest]] in the board file (16 where it has \
+             none), or than WRITABLE of its chain has room for",
+        _ => "the read: ask for the counter, whose answer says more",
     }
 }
 

@@ -2,7 +2,7 @@
 ghost use Rattle.std.specs.Prelude.{◌≤◌, ℕ, IfErr, IfOk, List, length};
 ghost use Rattle.rpmb_commands.specs.KeySaid.{IsWhyNoContent};
 
-use crate::refusal::Refusal;
+use crate::refusal::{FileRefusal, Refusal};
 use std::alloc::Global;
 use std::io::Read;
 use std::path::Path;
@@ -22,34 +22,45 @@ pub(crate) const BOARD_FILE: usize = 1_048_576;
 /// The most bytes of a script: 512 MiB, as `rpmbd run` takes them.
 pub(crate) const SCRIPT_FILE: usize = 536_870_912;
 
-/// Why a file isn't read that isn't there.
-pub(crate) const NOT_THERE: &str = "isn't there";
-
-pub(crate) const IS_FOLDER: &str = "is a folder";
-
-pub(crate) const NO_PERMISSION: &str = "no permission to read it";
-
-pub(crate) const NO_PATH: &str = "a part of its path is a file, and no folder";
-
-pub(crate) const ROUND_LINKS: &str = "leads round in links";
-
-const NO_PLAIN: &str = "is no plain file";
-
-const DEAD_LINK: &str = "is a link to a file that isn't there";
-
-pub(crate) const LONG_PATH: &str = "the path is too long";
-
-const NUL_PATH: &str = "the path has a byte of zero (NUL), or another that no path has";
-
 /// Why a file isn't read.
 #[derive(Clone, Copy)]
 pub enum SourceError {
-    /// It can't be read, for this reason.
-    NoFile(&'static str),
+    NotThere,
+    IsFolder,
+    NoPermission,
+    NoPath,
+    RoundLinks,
+    LongPath,
+    /// Its path has a byte of zero, or another that no path has.
+    NulPath,
+    NoPlain,
+    DeadLink,
+    LongLine,
+    /// A read of it failed.
+    Failed,
     /// It has more bytes than were asked for, or no end.
     TooLong,
     /// Memory was refused for its bytes.
     NoMemory,
+}
+
+impl SourceError {
+    pub(crate) fn text(self) -> &'static str {
+        match self {
+            Self::NotThere => "isn't there",
+            Self::IsFolder => "is a folder",
+            Self::NoPermission => "no permission to read it",
+            Self::NoPath => "a part of its path is a file, and no folder",
+            Self::RoundLinks => "leads round in links",
+            Self::LongPath => "the path is too long",
+            Self::NulPath => "the path has a byte of zero (NUL), or another that no path has",
+            Self::NoPlain => "is no plain file",
+            Self::DeadLink => "is a link to a file that isn't there",
+            Self::LongLine => "has a line of 134217760 bytes and more, and is no script",
+            Self::Failed => "a read of it failed",
+            _ => "can't be read",
+        }
+    }
 }
 
 /// How a file begins.
@@ -75,8 +86,8 @@ pub trait Source {
     ///
     /// # Errors
     ///
-    /// `NoFile` where it can't be read, `TooLong` where it holds more, `NoMemory` where memory is
-    /// refused for its bytes.
+    /// `TooLong` where it holds more, `NoMemory` where memory is refused for its bytes, else why it
+    /// can't be read.
     fn content(&self, alloc: Global, name: &str, most: usize) -> Result<Vec<u8>, SourceError>
         ensures given { IfOk result (λ bytes. gives self.now name.now bytes.items) }
         ensures most { IfOk result (λ bytes. length bytes.items ≤ most) };
@@ -91,14 +102,14 @@ pub trait Source {
 fn error_of(error: &io::Error) -> SourceError {
     match error.kind() {
         io::ErrorKind::OutOfMemory => SourceError::NoMemory,
-        io::ErrorKind::NotFound => SourceError::NoFile(NOT_THERE),
-        io::ErrorKind::IsADirectory => SourceError::NoFile(IS_FOLDER),
-        io::ErrorKind::PermissionDenied => SourceError::NoFile(NO_PERMISSION),
-        io::ErrorKind::NotADirectory => SourceError::NoFile(NO_PATH),
-        io::ErrorKind::FilesystemLoop => SourceError::NoFile(ROUND_LINKS),
-        io::ErrorKind::InvalidFilename => SourceError::NoFile(LONG_PATH),
-        io::ErrorKind::InvalidInput => SourceError::NoFile(NUL_PATH),
-        _ => SourceError::NoFile("a read of it failed"),
+        io::ErrorKind::NotFound => SourceError::NotThere,
+        io::ErrorKind::IsADirectory => SourceError::IsFolder,
+        io::ErrorKind::PermissionDenied => SourceError::NoPermission,
+        io::ErrorKind::NotADirectory => SourceError::NoPath,
+        io::ErrorKind::FilesystemLoop => SourceError::RoundLinks,
+        io::ErrorKind::InvalidFilename => SourceError::LongPath,
+        io::ErrorKind::InvalidInput => SourceError::NulPath,
+        _ => SourceError::Failed,
     }
 }
 
@@ -133,7 +144,7 @@ pub fn read_file<R: Files + AllocGlobal>(
 fn front_of<R: Files + AllocGlobal>(rt: &R, path: &str, most: u64) -> io::Result<Front> {
     let found = fs::metadata(rt, path)?;
     if !(found.is_file() || found.is_dir()) {
-        return Ok(Front::Unread(SourceError::NoFile(NO_PLAIN)));
+        return Ok(Front::Unread(SourceError::NoPlain));
     }
     let mut bytes = Vec::new(rt.alloc());
     fs::open(rt, path)?.take(most).read_to_end(&mut bytes)?;
@@ -161,9 +172,7 @@ pub fn read_front<R: Files + AllocGlobal>(rt: &R, path: &str, most: u64) -> Fron
     match front_of(rt, path, most) {
         Ok(front) => front,
         Err(error) => match error.kind() {
-            io::ErrorKind::NotFound if is_link(rt, path) => {
-                Front::Unread(SourceError::NoFile(DEAD_LINK))
-            }
+            io::ErrorKind::NotFound if is_link(rt, path) => Front::Unread(SourceError::DeadLink),
             io::ErrorKind::NotFound if !has_folder(rt, path) => Front::NoFolder,
             io::ErrorKind::NotFound => Front::Absent,
             _ => Front::Unread(error_of(&error)),
@@ -192,8 +201,8 @@ pub(crate) fn content_of<'a, S: Source>(
 {
     match source.content(alloc, name, most) {
         Ok(bytes) => Ok(bytes),
-        Err(SourceError::NoFile(why)) => Err(Refusal::NoFile(name, why)),
-        Err(SourceError::TooLong) => Err(Refusal::TooLong(name, most)),
+        Err(SourceError::TooLong) => Err(Refusal::File(FileRefusal::TooLong(most), name)),
         Err(SourceError::NoMemory) => Err(Refusal::NoMemory),
+        Err(why) => Err(Refusal::File(FileRefusal::Unread(why), name)),
     }
 }

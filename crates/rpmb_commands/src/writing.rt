@@ -41,8 +41,8 @@ fn content<'a, S: Source>(
     match (words.bytes, words.file) {
         (Some(word), None) => bytes_of_word(alloc, word),
         (None, Some(name)) => content_of(alloc, source, name, BLOCKS_FILE),
-        (Some(_), Some(_)) => Err(Refusal::NoData("both")),
-        (None, None) => Err(Refusal::NoData("neither")),
+        (Some(_), Some(_)) => Err(Refusal::TwoData),
+        (None, None) => Err(Refusal::NoData),
     }
 }
 

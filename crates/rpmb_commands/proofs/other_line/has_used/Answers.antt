@@ -1,4 +1,4 @@
-use Rattle.std.proofs.Common.{◌∙◌, ap, lit<, map, refl, sym}
+use Rattle.std.proofs.Common.{◌∙◌, ap, lit<, refl, sym}
 use Rattle.std.specs.Prelude.{◌||◌}
 use Rattle.std.proofs.lemmas.Iterator.Consumers.{YieldsList-at, YieldsList-end}
 use Rattle.std.proofs.lemmas.Iterator.Splits.{YieldsList-from_str_split}
