@@ -1,3 +1,4 @@
+//! Scenes over the book, the store, the board and its worlds, through stops and openings.
 mod acts;
 mod asked;
 mod boards;

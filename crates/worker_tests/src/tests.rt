@@ -1,3 +1,4 @@
+//! Guests that are served by threads, and the schedules that a test brings about.
 mod alone;
 mod asking;
 mod devices;

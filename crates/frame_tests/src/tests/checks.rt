@@ -1,3 +1,4 @@
+//! What the tests of frames ask of a row.
 use std::test::Fail;
 
 /// An error where it doesn't hold of the row at this place.

@@ -1,3 +1,4 @@
+//! The limits of a guest of a board.
 use rpmb_frame::{BoardConfig, GuestConfig, Limits};
 use std::alloc::Global;
 use std::test::Fail;

@@ -1,3 +1,4 @@
+//! HMAC SHA-256 by the cases of RFC 4231 and others, and the MACs of frames.
 ghost use Rattle.std.specs.Prelude.{◌<◌};
 
 use crate::tests::checks::{check_row, same};

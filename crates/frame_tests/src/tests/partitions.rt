@@ -1,3 +1,4 @@
+//! What a partition replies, and what each request leaves of it.
 mod blocks;
 mod ends;
 mod failures;

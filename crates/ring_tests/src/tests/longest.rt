@@ -1,5 +1,5 @@
-// The longest walks that the rules allow: each place of a queue of 256, the last of which refers
-// to a table of 1,024 entries, which is 1,280 descriptors.
+//! The longest walks that the rules allow: each place of a queue of 256, the last of which refers
+//! to a table of 1,024 entries, which is 1,280 descriptors.
 use super::descriptors::{
     Descriptor, INDIRECT, NEXT, WRITE, describe, holds, memory_of, put, set_word,
 };

@@ -1,3 +1,4 @@
+//! What a chain's bytes ask for: the rows of the table, and the law that the first row decides.
 use crate::tests::checks::check_row;
 use crate::tests::limits::limits_of;
 use rpmb_frame::laws::first_row_decides;

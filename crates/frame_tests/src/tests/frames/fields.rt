@@ -1,3 +1,4 @@
+//! A frame's fields by their bytes (VIRTIO 1.2, 5.12.6).
 use crate::tests::checks::same;
 use rpmb_frame::Frame;
 

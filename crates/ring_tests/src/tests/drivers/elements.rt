@@ -1,4 +1,4 @@
-// Elements of the used ring that the guest wrote itself, and what a reap says of them.
+//! Elements of the used ring that the guest wrote itself, and what a reap says of them.
 use super::{Form, GUEST, Pair, Turn, go};
 use crate::tests::devices::stores;
 use guest_driver::DriverFault;

@@ -1,4 +1,4 @@
-// A driver that accepted VIRTIO_F_IN_ORDER, and its device.
+//! A driver that accepted VIRTIO_F_IN_ORDER, and its device.
 use super::{Turn, WROTE, go, go_forms};
 use crate::tests::devices::step::Step;
 use guest_driver::DriverFault;

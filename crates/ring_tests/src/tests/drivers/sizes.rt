@@ -1,4 +1,4 @@
-// Queues that a device takes, and those that it doesn't, in memory that held other bytes.
+//! Queues that a device takes, and those that it doesn't, in memory that held other bytes.
 use super::{FORMS, Form, Pair, Turn, go_once, guest_of, offers};
 use crate::tests::devices::step::Step;
 use crate::tests::devices::stores;

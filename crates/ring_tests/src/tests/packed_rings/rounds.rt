@@ -1,3 +1,4 @@
+//! More places than 16 bits count, round after round.
 use super::{FIRST_ROUND, SECOND_ROUND, WRITE, places};
 use crate::tests::descriptors::{check_row, describe, holds};
 use crate::tests::devices::check;
