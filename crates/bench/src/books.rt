@@ -9,10 +9,11 @@ use board::Parts;
 use chains::Range;
 use disk::Disk;
 use flusher::Made;
+use guest_driver::BoardSetup;
 use hmac256::MacKey;
-use mmio_transport::Job;
+use mmio_transport::{Job, RingKind};
 use rpmb_book::{Checked, Due, Rooms};
-use rpmb_frame::{BoardConfig, Limits, RingKind};
+use rpmb_frame::{BoardConfig, Limits};
 use std::alloc::Global;
 use std::collections::VecDeque;
 
@@ -273,11 +274,11 @@ fn time_desk<D: Desk>(
 fn time_parts<D: Disk + Drop>(
     rt: &HostRuntime,
     extent: Extent,
-    (config, disk): (BoardConfig, D),
+    (setup, disk): (BoardSetup, D),
     name: &'static str,
     kind: Kind,
 ) -> Result<Row, Stop> {
-    match parts_on(rt.alloc(), disk, &config) {
+    match parts_on(rt.alloc(), disk, setup.board()) {
         Ok(parts) => Ok(time_desk(rt, extent, parts, name, kind)),
         Err(stop) => Err(stop),
     }

@@ -5,8 +5,9 @@ use crate::images::{new_image, opened_board};
 use crate::macs::time_keyed;
 use crate::requests::{Kind, mixed};
 use disk::Disk;
+use guest_driver::BoardSetup;
 use host::{Answer, Host};
-use rpmb_frame::{BoardConfig, RingKind};
+use mmio_transport::RingKind;
 use std::alloc::Global;
 
 /// The bytes of the longest request.
@@ -81,9 +82,9 @@ impl<C: Chains> Subject for Asked<C> {
 }
 
 /// A host over an image, with its device in service.
-fn host_on<D: Disk + Drop>(alloc: Global, disk: D, config: &BoardConfig) -> Result<Host<D>, Stop> {
-    match opened_board(alloc, disk, config) {
-        Ok(board) => match Host::new(alloc, board, config) {
+fn host_on<D: Disk + Drop>(alloc: Global, disk: D, setup: &BoardSetup) -> Result<Host<D>, Stop> {
+    match opened_board(alloc, disk, setup.board()) {
+        Ok(board) => match Host::new(alloc, board, setup) {
             Ok(host) => Ok(host),
             Err(_) => Err(NO_MEMORY),
         },
@@ -110,11 +111,11 @@ fn time_chains<C: Chains>(
 fn time_host<D: Disk + Drop>(
     rt: &HostRuntime,
     extent: Extent,
-    (config, disk): (BoardConfig, D),
+    (setup, disk): (BoardSetup, D),
     name: &'static str,
     kind: Kind,
 ) -> Result<Row, Stop> {
-    match host_on(rt.alloc(), disk, &config) {
+    match host_on(rt.alloc(), disk, &setup) {
         Ok(host) => Ok(time_chains(rt, extent, host, name, kind)),
         Err(stop) => Err(stop),
     }

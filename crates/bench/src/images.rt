@@ -5,22 +5,33 @@ ghost use Rattle.host.specs.Opening.{IsJustOpened};
 use crate::clock::{NO_MEMORY, Stop};
 use board::Board;
 use disk::{Disk, MemDisk};
+use guest_driver::{BoardSetup, DriverConfig};
 use intent_slots::Layout;
+use mmio_transport::RingKind;
 use recovery::format;
-use rpmb_frame::{BoardConfig, GuestConfig, RingKind};
+use rpmb_frame::{BoardConfig, GuestConfig};
 use std::alloc::Global;
 
 /// Which life a board is opened for. Only receipts tell one from another.
 const LIFE: u64 = 1;
 
-/// A board of one guest with a queue of this kind.
-fn board_of(alloc: Global, ring: RingKind) -> Result<BoardConfig, Stop> {
-    let guest = GuestConfig {
-        ring,
-        ..GuestConfig::of_capacity(1)
-    };
-    match vec![in alloc; guest; 1] {
+/// A board of one guest.
+fn board_of(alloc: Global) -> Result<BoardConfig, Stop> {
+    match vec![in alloc; GuestConfig::of_capacity(1); 1] {
         Ok(guests) => BoardConfig::new(guests).ok().ok_or("no board"),
+        Err(_) => Err(NO_MEMORY),
+    }
+}
+
+/// A board of one guest, whose driver takes a queue of this kind.
+fn setup_of(alloc: Global, ring: RingKind) -> Result<BoardSetup, Stop> {
+    let board = board_of(alloc)?;
+    let driver = DriverConfig {
+        ring,
+        ..DriverConfig::usual()
+    };
+    match vec![in alloc; driver; 1] {
+        Ok(drivers) => BoardSetup::new(board, drivers).ok().ok_or("no board"),
         Err(_) => Err(NO_MEMORY),
     }
 }
@@ -51,10 +62,10 @@ fn new_disk(alloc: Global, board: &BoardConfig) -> Result<MemDisk, Stop> {
 }
 
 /// Such a board, and a disk in memory with its fresh image.
-pub fn new_image(alloc: Global, ring: RingKind) -> Result<(BoardConfig, MemDisk), Stop> {
-    let board = board_of(alloc, ring)?;
-    match new_disk(alloc, &board) {
-        Ok(disk) => Ok((board, disk)),
+pub fn new_image(alloc: Global, ring: RingKind) -> Result<(BoardSetup, MemDisk), Stop> {
+    let setup = setup_of(alloc, ring)?;
+    match new_disk(alloc, setup.board()) {
+        Ok(disk) => Ok((setup, disk)),
         Err(stop) => Err(stop),
     }
 }

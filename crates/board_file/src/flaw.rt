@@ -4,7 +4,6 @@
 use crate::fault::BoardError;
 use crate::guest::GUEST_KEYS;
 use crate::keys::is_among;
-use rpmb_frame::GuestConfig;
 use std::alloc::{AllocError, Global};
 use strsim::damerau_levenshtein;
 use toml::{Table, Value};
@@ -123,8 +122,7 @@ pub(crate) fn no_queue_size(alloc: Global, queue: u16) -> BoardError {
 }
 
 /// A guest's memory is too small for a driver's layout of this length in bytes.
-pub(crate) fn no_room(alloc: Global, guest: &GuestConfig, least: u64) -> BoardError {
-    let (queue, memory) = (guest.queue, guest.memory);
+pub(crate) fn no_room(alloc: Global, queue: u16, memory: u64, least: u64) -> BoardError {
     BoardError::of(format!(in alloc;
         "the key memory: expected at least {least} bytes for a queue of {queue}, got {memory}"
     ))

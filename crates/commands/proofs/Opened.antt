@@ -8,6 +8,7 @@ use Rattle.commands.proofs.Common.{OpenFault, GuestCore, GuestState, StaysLinked
 use Rattle.commands.proofs.Common.{BoardState, guests, HostState, Moves, runner_of, OpeningEnds}
 use Rattle.commands.proofs.Common.{fault_of_image, AreOf, IsOpened, MovesTo, Fault}
 use Rattle.disk.specs.declared.disk.DiskFault.{DiskFault}
+use Rattle.guest_driver.specs.declared.config.DriverConfig.{DriverConfig}
 use Rattle.intent_slots.specs.Recovered as recovered
 use Rattle.recovery.specs.Opening.{IsImage}
 use Rattle.recovery.specs.declared.fault.OpenFault.TheVariants as image
@@ -66,13 +67,14 @@ pub opened_host : {D : Type 0} (shows : D → DiskState) (makes : D → DiskCall
     → ((shows disk).faithful ≡ true → IsImage (capacities_of board) (shows disk).len
     (shows disk).seen)
     → Within shows makes (Untouched (shows disk)) disk b.store.disk → (shows b.store.disk).failures
-    ≡ (shows disk).failures → IsFirstHost board b h
+    ≡ (shows disk).failures → (drivers : List DriverConfig)
+    → IsFirstHost (record { board = board; drivers = drivers }) b h
     → ((bases : ℕ → Partition) (accepted : ℕ → List Request)
     → StaysLinked shows board bases accepted b → StaysLinked shows board bases accepted h.board)
     → IsOpened shows makes board disk h
 unfolding capacities_of
 opened_host {D = D} shows makes board disk b h life begins stand whole_image untouched unfailed
-    first links = record {
+    drivers first links = record {
       partitions = begins.partitions;
       of_image = image_of shows board disk b life begins stand whole_image;
       cores = cores;
@@ -85,7 +87,12 @@ opened_host {D = D} shows makes board disk b h life begins stand whole_image unt
       untouched = subst (λ s. Within shows makes (Untouched (shows disk)) disk s.disk) (sym first.store)
           untouched;
       unfailed = ap (λ s. (shows s.disk).failures) first.store ∙ unfailed;
-      host = λ in_range. record { in_range = in_range; own = first.own; clear = first.clear };
+      host = record {
+        drivers = drivers;
+        fit = first.fit;
+        own = first.own;
+        clear = first.clear;
+      };
     }
   where
     cores : (runner_of h.board).cores ≡ first_cores board begins.partitions

@@ -2,7 +2,7 @@
 use Rattle.std.proofs.Common.{◌≡◌, ◌==◌, ◌+◌, ◌-◌, ◌*◌, ◌%◌, ◌<◌, ◌≤◌, ℕ, inl, inr, Bool, true}
 use Rattle.std.proofs.Common.{false, List, Option, Some, None, Result, Ok, Err, ap, ◌∙◌, arith}
 use Rattle.std.proofs.Common.{length, refl, subst, sym}
-use Rattle.commands.proofs.Common.{All, slice_get, get_or_from_slice_get, slice_get_within, IsGuest}
+use Rattle.commands.proofs.Common.{slice_get}
 use Rattle.commands.proofs.Common.{GuestConfig, IsWithin, chain, nothing, store, reset, GuestView}
 use Rattle.commands.proofs.Common.{is_broken, ChainsAt, HostState, HostView, ResetsAt, StoresAt}
 use Rattle.commands.proofs.Common.{seen, RunnerView, HostFault, Answer, Said, ChainFault, LineDone}
@@ -10,15 +10,14 @@ use Rattle.commands.proofs.Common.{LineFails, IsOfWriting, LineEnds, fault_of, F
 use Rattle.std.proofs.Math.Nat.{add-mul-mod_self_right, mod-eq_of_lt}
 use Rattle.std.specs.Prelude.{nat_lt}
 use Rattle.std.proofs.lemmas.Bool.Decides.{nat_tests}
-use Rattle.rpmb_frame.specs.declared.config.RingKind.{RingKind}
-use Rattle.rpmb_frame.specs.declared.config.RingKind.TheVariants.{Split, Packed}
-use Rattle.guest_driver.specs.declared.form.Form.{Form}
+use Rattle.mmio_transport.specs.declared.ring_kind.RingKind.{RingKind}
+use Rattle.mmio_transport.specs.declared.ring_kind.RingKind.TheVariants.{Split, Packed}
+use Rattle.guest_driver.specs.Config.{IsDriver, SetupState, config_of}
 use Rattle.guest_driver.specs.Driver.{DriverState, HasTooFew, IsFull, full_by, offer_of, owner}
 use Rattle.guest_driver.specs.Kinds.{needed}
 use Rattle.guest_driver.specs.Offered.{Offer}
 use Rattle.guest_driver.specs.PackedHeld.{free_places}
 use Rattle.guest_driver.specs.PackedOffered.{none_or_one, places_of}
-use Rattle.guest_driver.specs.Negotiation.{form_of}
 use Rattle.host.specs.Guest.{StoresInto}
 use Rattle.host.specs.Host.{HostChains, HostResetsGuest, HostStores, StuckBy}
 use Rattle.host.specs.Reasons.{ChainReason, IsAtRest, IsLevel, HostExplains, HostKeeps, IsGuestOf}
@@ -73,39 +72,31 @@ enough driver readable writable many sized rest full = by driver.form.kind rest.
         rest.free few
 
 -- a driver has room for its areas
-roomy : (g : GuestConfig) (form : Form) (size bytes : ℕ) → IsGuest g → form ≡ form_of g
-    → size ≡ g.queue → bytes ≡ g.memory → bytes < needed form.kind size → ⊥
-roomy g form size bytes guest is sized whole small =
-    let holds = guest.holds_layout in
-    let less : g.memory < needed g.ring g.queue =
-    subst (λ b. b < needed g.ring g.queue) whole
-    (subst (λ q. bytes < needed g.ring q) sized
-    (subst (λ (f : Form). bytes < needed f.kind size) is small)) in
-    omega (arith, holds, less)
+roomy : (memory bytes : ℕ) (driver : DriverState) → IsDriver memory (config_of driver)
+    → bytes ≡ memory → bytes < needed driver.form.kind driver.size → ⊥
+roomy memory bytes driver fits whole small = (let holds = fits.holds_layout in
+    omega (arith, holds, whole, small))
 
 -- a chain of one of the board's guests, which wasn't stuck
-chain_reason : (board : List GuestConfig) (f : HostFault) (g g' : GuestView) (r r' : RunnerView)
-    (guest : ℕ) (readable : List ℕ) (writable : ℕ) → IsGuest g.device.config
-    → IsGuestOf board guest g → IsAtRest g.driver → ChainReason g r readable writable (Err f) g' r'
-    → LineEnds board r'.answered (fault_of f) (chain guest readable writable)
-chain_reason board host.OutOfRange g g' r r' guest readable writable ok own rest reason =
-    absurd (roomy g.device.config g.driver.form g.driver.size (length g.device.memory) ok own.form
-    own.size own.memory reason.0)
-chain_reason board host.NoMemory g g' r r' guest readable writable ok own rest reason = tt
-chain_reason board host.Busy g g' r r' guest readable writable ok own rest reason = absurd reason
-chain_reason board host.HistoryFull g g' r r' guest readable writable ok own rest reason =
+chain_reason : (setup : SetupState) (f : HostFault) (g g' : GuestView) (r r' : RunnerView)
+    (guest : ℕ) (readable : List ℕ) (writable : ℕ)
+    → IsDriver g.device.config.memory (config_of g.driver) → IsGuestOf setup guest g
+    → IsAtRest g.driver → ChainReason g r readable writable (Err f) g' r'
+    → LineEnds setup.board r'.answered (fault_of f) (chain guest readable writable)
+chain_reason setup host.OutOfRange g g' r r' guest readable writable fits own rest reason =
+    absurd (roomy g.device.config.memory (length g.device.memory) g.driver fits own.memory reason.0)
+chain_reason setup host.NoMemory g g' r r' guest readable writable fits own rest reason = tt
+chain_reason setup host.Busy g g' r r' guest readable writable fits own rest reason = absurd reason
+chain_reason setup host.HistoryFull g g' r r' guest readable writable fits own rest reason =
     (tt, reason)
-chain_reason board host.NoRoom g g' r r' guest readable writable ok own rest reason =
-    let many = ok.queue.0 in
-    let size = own.size in
-    absurd (enough g.driver readable writable (omega (arith, many, size)) own.owners rest reason.0)
-chain_reason board host.Foreign g g' r r' guest readable writable ok own rest reason = absurd reason
+chain_reason setup host.NoRoom g g' r r' guest readable writable fits own rest reason =
+    absurd (enough g.driver readable writable fits.queue.0 own.owners rest reason.0)
+chain_reason setup host.Foreign g g' r r' guest readable writable fits own rest reason =
+    absurd reason
 
--- what holds of each guest of a board
-guest_of : (board : List GuestConfig) (number : ℕ) (c : GuestConfig) (P : GuestConfig → Type 0)
-    → All P board → slice_get board number ≡ Some c → P c
-guest_of board number c P each at = subst P (get_or_from_slice_get board number c c at)
-    (each number c (slice_get_within board number c at))
+-- the board of a host's guests, and their drivers
+abbrev setup_of : (board : List GuestConfig) (h : HostView) → IsHostOf board h → SetupState
+setup_of board h is = record { board = board; drivers = is.drivers }
 
 pub chain_stops : (was now : Bool) (board : List GuestConfig) (h h' : HostView) (guest : ℕ)
     (readable : List ℕ) (writable : ℕ) (f : HostFault)
@@ -117,7 +108,8 @@ chain_stops was now board h h' guest readable writable f explains chains is with
     let inside = within.0 in
     let count = is.own.count in
     let g = there_is h.guests guest (omega (arith, inside, count)) in
-    let e = explains board is.in_range is.own in
+    let setup = setup_of board h is in
+    let e = explains setup is.fit is.own in
     let own = is.own.each guest g.0 g.1 in
     let c = subst (λ o. ChainsAt was now o h guest readable writable (Err f) h') g.1 chains in
     by g.0 (slice_get h'.guests guest) g.0.stuck refl own (is.clear guest g.0 g.1)
@@ -126,7 +118,7 @@ chain_stops was now board h h' guest readable writable f explains chains is with
     c.after c.stuck
   where
     by : (g : GuestView) (after : Option GuestView) (why : Option Stuck) → g.stuck ≡ why
-        → IsGuestOf board guest g → (g.stuck ≡ None → IsAtRest g.driver)
+        → IsGuestOf (setup_of board h is) guest g → (g.stuck ≡ None → IsAtRest g.driver)
         → ReasonAt (Some g) after h.runner readable writable (Err f) h'.runner → (x : GuestView)
         → StuckBy was now g.stuck g (Err f) x h h'
         → LineEnds board h'.runner.answered (fault_of f) (chain guest readable writable)
@@ -134,16 +126,16 @@ chain_stops was now board h h' guest readable writable f explains chains is with
         (let told = (subst (λ s. StuckBy was now s g (Err f) x h h') same stuck).0 in absurd (cc))
     by g None None same own clear reason x stuck = absurd reason
     by g (Some g') None same own clear reason x stuck =
-        chain_reason board f g g' h.runner h'.runner guest readable writable
-        (guest_of board guest g.device.config IsGuest is.in_range.each own.config) own
+        chain_reason (setup_of board h is) f g g' h.runner h'.runner guest readable writable
+        (is.fit.each guest g.device.config (config_of g.driver) own.config own.driver) own
         (clear same) (reason.0 same)
 
 -- a store of one of the board's guests
-store_reason : (board : List GuestConfig) (n : ℕ) (f : HostFault) (g g' : GuestView) (guest at : ℕ)
-    (bytes : List ℕ) → IsGuestOf board guest g → StoresInto g at bytes (Err f) g'
-    → LineEnds board n (fault_of f) (store guest at bytes)
-store_reason board n f g g' guest at bytes own stores =
-    subst (λ e. LineEnds board n (fault_of e) (store guest at bytes)) (sym stores.0)
+store_reason : (setup : SetupState) (n : ℕ) (f : HostFault) (g g' : GuestView) (guest at : ℕ)
+    (bytes : List ℕ) → IsGuestOf setup guest g → StoresInto g at bytes (Err f) g'
+    → LineEnds setup.board n (fault_of f) (store guest at bytes)
+store_reason setup n f g g' guest at bytes own stores =
+    subst (λ e. LineEnds setup.board n (fault_of e) (store guest at bytes)) (sym stores.0)
     (subst (λ o. IsOutside o at (length bytes)) (sym own.config)
     (subst (λ n. n < at + length bytes) own.memory
     (past (length g.device.memory) (at + length bytes) stores.1)))
@@ -164,7 +156,8 @@ store_stops board h h' guest at bytes f stores is within =
     let count = is.own.count in
     let g = there_is h.guests guest (omega (arith, inside, count)) in
     let s = subst (λ o. StoresAt o h guest at bytes (Err f) h') g.1 stores in
-    store_reason board h'.runner.answered f g.0 s.0 guest at bytes (is.own.each guest g.0 g.1) s.1
+    store_reason (setup_of board h is) h'.runner.answered f g.0 s.0 guest at bytes
+    (is.own.each guest g.0 g.1) s.1
 
 -- one that went well lies in that memory
 pub store_inside : (board : List GuestConfig) (h h' : HostView) (guest at : ℕ) (bytes : List ℕ)
@@ -194,17 +187,22 @@ pub chain_hosts : (board : List GuestConfig) (h h' : HostView) (guest : ℕ) (re
     (writable : ℕ) (answer : Answer) → HostExplains h guest readable writable (Ok answer) h'
     → IsHostOf board h → IsHostOf board h'
 chain_hosts board h h' guest readable writable answer explains is =
-    let e = explains board is.in_range is.own in
-    record { in_range = is.in_range; own = e.own; clear = e.clear answer refl is.clear }
+    let e = explains (setup_of board h is) is.fit is.own in
+    record {
+      drivers = is.drivers;
+      fit = is.fit;
+      own = e.own;
+      clear = e.clear answer refl is.clear;
+    }
 
 pub kept_hosts : (board : List GuestConfig) (h h' : HostView) → HostKeeps h h' → IsHostOf board h
     → IsHostOf board h'
 kept_hosts board h h' keeps is =
-    (let k = keeps board is.own in record {
-      in_range = is.in_range;
+    (let k = keeps (setup_of board h is) is.own in record {
+      drivers = is.drivers;
+      fit = is.fit;
       own = k.0;
-      clear =
-          k.1 is.clear;
+      clear = k.1 is.clear;
     })
 
 -- the writing of a chain's line

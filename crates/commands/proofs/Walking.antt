@@ -4,7 +4,7 @@ use Rattle.std.proofs.Common.{◌∷◌, ◌++◌, Option, None, Some, Result, O
 use Rattle.std.proofs.Common.{sym, subst, ◌∙◌, arith}
 use Rattle.commands.proofs.Common.{is_ok, not, slice_get, append_assoc, length-append}
 use Rattle.commands.proofs.Common.{get_or_from_slice_get, Appends-nil, Appends-trans, Keeps-refl}
-use Rattle.commands.proofs.Common.{Appends, Keeps, IsBoard, Partition, sequence, Request}
+use Rattle.commands.proofs.Common.{Appends, Keeps, Partition, sequence, Request}
 use Rattle.commands.proofs.Common.{GuestConfig, partition_after_all, sequence_of_all, DiskCall}
 use Rattle.commands.proofs.Common.{DiskState, HasRisen, Still, Within, capacities_of, Untouched}
 use Rattle.commands.proofs.Common.{mark_of, GuestCore, GuestState, last_count, IsWithin, Said, Line}
@@ -227,7 +227,7 @@ may_end {D = D} board f (line ∷ rest) last after now next stops kept more =
 module _ {D : Type 0} (shows : D → DiskState) (makes : D → DiskCall → D → Type 0)
     (board : List GuestConfig) (disk : D) (h : HostState D) (read : List Line)
     (start : Option (List ℕ)) (opened : IsOpened shows makes board disk h)
-    (within : AreWithin (length board) read) (in_range : IsBoard board) where
+    (within : AreWithin (length board) read) where
   abbrev every : List Said
   every = map said read
 
@@ -284,7 +284,7 @@ module _ {D : Type 0} (shows : D → DiskState) (makes : D → DiskCall → D �
     ready =
         opened.ready;
     answered = opened.answered;
-    host = opened.host in_range;
+    host = opened.host;
   }
 
   -- all lines came to their end, and the calls after them

@@ -1,7 +1,6 @@
 -- The image that a run works on: what it stood for, and what it stands for afterwards.
 use Rattle.std.specs.Prelude.{◌≡◌, ℕ, List, [], Option, length, true, false}
 use Rattle.std.specs.Io.KnownBytes.{Appends}
-use Rattle.rpmb_frame.specs.Config.{IsBoard}
 use Rattle.rpmb_frame.specs.Partition.{Partition}
 use Rattle.rpmb_frame.specs.declared.config.GuestConfig.{GuestConfig}
 use Rattle.disk.specs.Content.{Content}
@@ -64,4 +63,4 @@ pub record IsOpened {D : Type 0} (shows : D → DiskState) (makes : D → DiskCa
   pub whole : h.board.store.broken ≡ false
   pub untouched : Within shows makes (Untouched (shows disk)) disk h.board.store.disk
   pub unfailed : (shows h.board.store.disk).failures ≡ (shows disk).failures
-  pub host : IsBoard board → IsHostOf board (seen h)
+  pub host : IsHostOf board (seen h)

@@ -13,7 +13,7 @@ use crate::showing::show;
 use crate::upgrading::upgrade;
 use command_line::Command;
 use disk::Disk;
-use rpmb_frame::BoardConfig;
+use guest_driver::BoardSetup;
 use std::io::Write;
 use std::sync::Wait;
 use std::thread::Threads;
@@ -22,15 +22,17 @@ use std::thread::Threads;
 fn obey<R: AllocGlobal + Threads + Wait + Sync, D: Disk + Send + Drop, W: Write>(
     rt: &R,
     command: Command<'_>,
-    board: &BoardConfig,
+    setup: &BoardSetup,
     script: &str,
     disk: D,
     out: &mut W,
 ) -> (Result<(), Fault>, Option<D>)
-    requires { IsFormat command → (D.state disk).len ≡ image_length (capacities_of board.now) }
-    ensures { Does D.state D.makes command.entry board.now script.now disk
+    requires { IsFormat command
+        → (D.state disk).len ≡ image_length (capacities_of setup.now.board) }
+    ensures { Does D.state D.makes command.entry setup.now.board script.now disk
         (W.contents out.old) result.0 result.1 (W.contents out.new) }
 {
+    let board = setup.board();
     match command {
         Command::Format { .. } => {
             let mut disk = disk;
@@ -47,10 +49,10 @@ fn obey<R: AllocGlobal + Threads + Wait + Sync, D: Disk + Send + Drop, W: Write>
             (done, Some(disk))
         }
         Command::Run { .. } => {
-            let (done, disk) = run(rt.alloc(), board, script, disk, out);
+            let (done, disk) = run(rt.alloc(), setup, script, disk, out);
             (done, Some(disk))
         }
-        Command::Serve { .. } => serve(rt, board, script, disk, out),
+        Command::Serve { .. } => serve(rt, setup, script, disk, out),
     }
 }
 
@@ -61,20 +63,21 @@ fn obey<R: AllocGlobal + Threads + Wait + Sync, D: Disk + Send + Drop, W: Write>
 pub fn perform<R: AllocGlobal + Threads + Wait + Sync, D: Disk + Send + Drop, W: Write, E: Write>(
     rt: &R,
     command: Command<'_>,
-    board: &BoardConfig,
+    setup: &BoardSetup,
     script: &str,
     disk: D,
     out: &mut W,
     err: &mut E,
 ) -> (Result<(), Fault>, Option<D>)
     // An image is made on a disk of its length.
-    requires { IsFormat command → (D.state disk).len ≡ image_length (capacities_of board.now) }
+    requires { IsFormat command
+        → (D.state disk).len ≡ image_length (capacities_of setup.now.board) }
     // It did what its own function promises, and standard error tells how that ended.
-    ensures { Performs D.state D.makes command.entry board.now script.now disk
+    ensures { Performs D.state D.makes command.entry setup.now.board script.now disk
         (W.contents out.old) result.0 result.1 (W.contents out.new)
         (E.contents err.old) (E.contents err.new) }
 {
-    let (ended, disk) = obey(rt, command, board, script, disk, out);
+    let (ended, disk) = obey(rt, command, setup, script, disk, out);
     tell_end(ended, err);
     (ended, disk)
 }

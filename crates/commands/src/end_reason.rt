@@ -4,6 +4,7 @@ use crate::fault::Fault;
 use crate::reason::{OUTPUT, said, said_by};
 use command_line::Command;
 use disk::Disk;
+use guest_driver::BoardSetup;
 use intent_slots::Layout;
 use rpmb_frame::BoardConfig;
 use script::{Line, ScriptError, read_script, read_served_script};
@@ -43,7 +44,7 @@ fn after_failure(command: Command<'_>) -> &'static str {
 #[derive(Clone, Copy)]
 pub struct Task<'a> {
     pub command: Command<'a>,
-    pub board: &'a BoardConfig,
+    pub setup: &'a BoardSetup,
     /// The script's text; empty where the command has none.
     pub script: &'a str,
     /// The path of the image, where the board names one.
@@ -51,6 +52,11 @@ pub struct Task<'a> {
 }
 
 impl<'a> Task<'a> {
+    /// The board.
+    fn board(self) -> &'a BoardConfig {
+        self.setup.board()
+    }
+
     /// What is said in the place of the image's file.
     fn place(self) -> &'a str {
         self.image.unwrap_or("the image in memory")
@@ -64,7 +70,7 @@ impl<'a> Task<'a> {
 
 /// Why the script isn't read: its reader, asked again, says which line it is and why.
 fn misread(alloc: Global, task: Task<'_>) -> Option<String> {
-    let guests = task.board.guests().len() as u16;
+    let guests = task.board().guests().len() as u16;
     let read = match task.command {
         Command::Serve { .. } => read_served_script(alloc, task.script, guests),
         _ => read_script(alloc, task.script, guests),
@@ -87,11 +93,11 @@ fn left_memory(board: &BoardConfig, line: &Line) -> Option<u64> {
 
 /// Which line of the script stores beyond its guest's memory: the first one that does ended the run.
 fn misplaced(alloc: Global, task: Task<'_>) -> Option<String> {
-    let lines = read_script(alloc, task.script, task.board.guests().len() as u16).ok()?;
+    let lines = read_script(alloc, task.script, task.board().guests().len() as u16).ok()?;
     let place = lines
         .iter()
-        .position(|line| left_memory(task.board, line).is_some())?;
-    let memory = left_memory(task.board, lines.get(place)?)?;
+        .position(|line| left_memory(task.board(), line).is_some())?;
+    let memory = left_memory(task.board(), lines.get(place)?)?;
     let (path, number) = (task.script_path(), place.saturating_add(1));
     let text = "the store reaches beyond its guest's memory";
     format!(in alloc; "{path}: line {number}: {text}, which has {memory} bytes").ok()
@@ -110,7 +116,7 @@ fn is_image<D: Disk>(disk: &mut D) -> bool {
 /// another one. What may be left of partitions, or is something else, is never told to be
 /// formatted, which would empty it.
 fn unformatted<D: Disk>(alloc: Global, task: Task<'_>, disk: &mut D) -> Option<String> {
-    let (image, whole, length) = (task.place(), Layout::of(task.board).length(), disk.len());
+    let (image, whole, length) = (task.place(), Layout::of(task.board()).length(), disk.len());
     if length == 0 {
         return said(alloc, image, EMPTY);
     }

@@ -9,7 +9,7 @@ ghost use Rattle.commands.specs.Transcript.{Says, StoresNothing};
 use crate::fault::Fault;
 use crate::running::run;
 use disk::{FileDisk, PositionedFile};
-use rpmb_frame::BoardConfig;
+use guest_driver::BoardSetup;
 use std::alloc::Global;
 use std::io::Write;
 
@@ -18,14 +18,14 @@ use std::io::Write;
 /// and the image's header is as it was.
 pub fn run_in_file<F: PositionedFile, W: Write>(
     alloc: Global,
-    board: &BoardConfig,
+    setup: &BoardSetup,
     script: &str,
     disk: FileDisk<F>,
     out: &mut W,
 ) -> (Result<(), Fault>, FileDisk<F>)
     ensures { OnOk result.0 ((F.shows disk.file).faithful ≡ true
-        → (lines : List Said) → Says board.now script.now lines → StoresNothing lines
-        → LeavesRun board.now (file_state F.shows disk) (file_state F.shows result.1) lines) }
+        → (lines : List Said) → Says setup.now.board script.now lines → StoresNothing lines
+        → LeavesRun setup.now.board (file_state F.shows disk) (file_state F.shows result.1) lines) }
 {
-    run(alloc, board, script, disk, out)
+    run(alloc, setup, script, disk, out)
 }

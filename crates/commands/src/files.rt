@@ -4,7 +4,7 @@
 use crate::fault::Fault;
 use crate::reason::{NO_TEXT, Refusal};
 use board_file::{BoardError, read_board};
-use rpmb_frame::BoardConfig;
+use guest_driver::BoardSetup;
 use std::alloc::Global;
 use std::fs::File;
 use std::io;
@@ -152,16 +152,16 @@ pub fn read_script_text<R: Files + AllocGlobal>(rt: &R, path: &str) -> Result<St
     }
 }
 
-/// The board of a file, and the path of its image, where it names one. `FileFault` where the file
-/// can't be read, isn't UTF-8, or is longer than 1 MiB; `BadBoard` where the text is no board;
-/// `NoMemory`.
+/// The guests of a board file, and the path of their image, where it names one. `FileFault` where
+/// the file can't be read, isn't UTF-8, or is longer than 1 MiB; `BadBoard` where the text is no
+/// board; `NoMemory`.
 pub fn read_board_file<R: Files + AllocGlobal>(
     rt: &R,
     path: &str,
-) -> Result<(BoardConfig, Option<String>), Refusal> {
+) -> Result<(BoardSetup, Option<String>), Refusal> {
     let text = read_board_text(rt, path)?;
     match read_board(rt.alloc(), text.as_str()) {
-        Ok(board) => Ok(board),
+        Ok(read) => Ok(read),
         Err(BoardError::BadBoard(flaw)) => {
             Err(Refusal::of_file(rt.alloc(), Fault::BadBoard, path, flaw.as_str()))
         }
@@ -169,14 +169,14 @@ pub fn read_board_file<R: Files + AllocGlobal>(
     }
 }
 
-/// The board of a file, and the path of the image that it has to name. Refused as by
+/// The guests of a board file, and the path of the image that it has to name. Refused as by
 /// `read_board_file`, and with `BadBoard` where it names none.
 pub fn read_image_board<R: Files + AllocGlobal>(
     rt: &R,
     path: &str,
-) -> Result<(BoardConfig, String), Refusal> {
+) -> Result<(BoardSetup, String), Refusal> {
     match read_board_file(rt, path)? {
-        (board, Some(image)) => Ok((board, image)),
+        (setup, Some(image)) => Ok((setup, image)),
         (_, None) => {
             let why = "names no image: its guests are in memory, and nothing of them is kept; \
                 add image = \"FILE\" above [[guest]]";

@@ -17,7 +17,6 @@ use crate::reason::{OUTPUT, Refusal};
 use command_line::{Command, ImageVersion, WordsError, print_words, read_words};
 use disk::{Disk, FileDisk};
 use intent_slots::Layout;
-use rpmb_frame::BoardConfig;
 use std::io::{LineWriter, Write};
 use std::sync::Wait;
 use std::thread::Threads;
@@ -48,11 +47,11 @@ fn perform_on<R: AllocGlobal + Threads + Wait + Sync, D: Disk + Send + Drop, W: 
     out: &mut W,
 ) -> (u8, Option<D>)
     requires { IsFormat task.command
-        → (D.state disk).len ≡ image_length (capacities_of task.board.now) }
+        → (D.state disk).len ≡ image_length (capacities_of task.setup.now.board) }
 {
     let mut err = rt.stderr();
-    let (command, board) = (task.command, task.board);
-    let (ended, mut disk) = perform(threads, command, board, task.script, disk, out, &mut err);
+    let (command, setup) = (task.command, task.setup);
+    let (ended, mut disk) = perform(threads, command, setup, task.script, disk, out, &mut err);
     if let Err(fault) = ended {
         let reason = reason_of_end(rt.alloc(), task, fault, disk.as_mut(), out);
         write_reason(reason.as_ref(), &mut err);
@@ -74,7 +73,7 @@ fn perform_script<R: AllocGlobal + Threads + Wait + Sync, W: Write>(
             let disk = open_image(rt, path)?;
             Ok(perform_on(rt, threads, task, disk, out).0)
         }
-        None => match fresh_disk(rt.alloc(), task.board) {
+        None => match fresh_disk(rt.alloc(), task.setup.board()) {
             Ok(disk) => Ok(perform_on(rt, threads, task, disk, out).0),
             Err(_) => Err(Refusal::no_memory()),
         },
@@ -91,7 +90,7 @@ fn perform_format<R: AllocGlobal + Threads + Wait + Sync, W: Write>(
     disk: FileDisk,
     out: &mut W,
 ) -> u8
-    requires { disk.len ≡ image_length (capacities_of task.board.now) }
+    requires { disk.len ≡ image_length (capacities_of task.setup.now.board) }
 {
     let (status, disk) = perform_on(rt, threads, task, disk, out);
     match (status, version, disk) {
@@ -115,11 +114,11 @@ fn perform_on_image<R: AllocGlobal + Threads + Wait + Sync, W: Write>(
     out: &mut W,
 ) -> Result<u8, Refusal> {
     let path = command.board();
-    let (board, image) = read_image_board(rt, path)?;
+    let (setup, image) = read_image_board(rt, path)?;
     let image = image.as_str();
     let task = Task {
         command,
-        board: &board,
+        setup: &setup,
         script: "",
         image: Some(image),
     };
@@ -129,8 +128,14 @@ fn perform_on_image<R: AllocGlobal + Threads + Wait + Sync, W: Write>(
             version,
             ..
         } => {
-            ask_before_a_loss(rt, image, only_new, &board)?;
-            let disk = create_image(rt, image, path, only_new, Layout::of(&board).length())?;
+            ask_before_a_loss(rt, image, only_new, setup.board())?;
+            let disk = create_image(
+                rt,
+                image,
+                path,
+                only_new,
+                Layout::of(setup.board()).length(),
+            )?;
             Ok(perform_format(rt, threads, task, version, disk, out))
         }
         Command::Show { .. } => {
@@ -156,11 +161,11 @@ fn perform_on_files<R: AllocGlobal + Threads + Wait + Sync, W: Write>(
             perform_on_image(rt, threads, command, out)
         }
         Command::Run { board, script } | Command::Serve { board, script } => {
-            let (board, image) = read_board_file(rt, board)?;
+            let (setup, image) = read_board_file(rt, board)?;
             let script = read_script_text(rt, script)?;
             let task = Task {
                 command,
-                board: &board,
+                setup: &setup,
                 script: script.as_str(),
                 image: image.as_deref(),
             };

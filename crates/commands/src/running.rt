@@ -2,7 +2,6 @@
 ghost use Rattle.std.specs.Prelude.{◌≡◌, ℕ, All, List, Err, IfErr, IfOk, IsErr, OnOk, Some, length};
 ghost use Rattle.std.specs.Prelude.{map};
 ghost use Rattle.std.specs.Io.KnownBytes.{Keeps};
-ghost use Rattle.rpmb_frame.specs.Config.{IsBoard};
 ghost use Rattle.disk.specs.Disk.{Within};
 ghost use Rattle.intent_slots.specs.Layout.{capacities_of};
 ghost use Rattle.recovery.specs.Opening.{Untouched};
@@ -21,8 +20,8 @@ use crate::fault::Fault;
 use crate::used_lines::{write_reply, write_stuck};
 use board::Board;
 use disk::Disk;
+use guest_driver::BoardSetup;
 use host::{Answer, Host};
-use rpmb_frame::BoardConfig;
 use script::{Line, ScriptError, read_script};
 use std::alloc::Global;
 use std::io::Write;
@@ -30,16 +29,16 @@ use std::io::Write;
 /// The life of the board that a run opens. No job of it comes to another one.
 const LIFE: u64 = 1;
 
-fn read_lines(alloc: Global, script: &str, board: &BoardConfig) -> Result<Vec<Line>, Fault>
+fn read_lines(alloc: Global, script: &str, setup: &BoardSetup) -> Result<Vec<Line>, Fault>
     ensures ok { IfOk result (λ lines. map (λ line. Some (said line)) lines.items
-        ≡ map (line_of (length board.now)) (lines_of script.now)) }
+        ≡ map (line_of (length setup.now.board)) (lines_of script.now)) }
     ensures sized { IfOk result (λ lines. All (λ line. IsSized (said line)) lines.items) }
-    ensures within { IfOk result (λ lines. AreWithin (length board.now) lines.items) }
-    ensures in_range { IsBoard board.now }
-    ensures bad { (n : ℕ) → result ≡ Err (Fault.BadScript n) → IsBadAt board.now script.now n }
+    ensures within { IfOk result (λ lines. AreWithin (length setup.now.board) lines.items) }
+    ensures bad { (n : ℕ) → result ≡ Err (Fault.BadScript n)
+        → IsBadAt setup.now.board script.now n }
     ensures reads { IfErr result IsOfReading }
 {
-    match read_script(alloc, script, board.guests().len() as u16) {
+    match read_script(alloc, script, setup.board().guests().len() as u16) {
         Ok(lines) => Ok(lines),
         Err(ScriptError::BadScript { line, .. }) => Err(Fault::BadScript { line }),
         Err(ScriptError::NoMemory) => Err(Fault::NoMemory),
@@ -115,16 +114,16 @@ fn run_lines<D: Disk, W: Write>(
 }
 
 /// The guests of an image, each in its first session. The disk is given back with a fault.
-fn open_host<D: Disk>(alloc: Global, disk: D, board: &BoardConfig) -> Result<Host<D>, (D, Fault)>
-    ensures opened { IfOk result (IsOpened D.state D.makes board.now disk) }
+fn open_host<D: Disk>(alloc: Global, disk: D, setup: &BoardSetup) -> Result<Host<D>, (D, Fault)>
+    ensures opened { IfOk result (IsOpened D.state D.makes setup.now.board disk) }
     ensures calm { IfOk result (λ h. IsCalm D.state h.board) }
     ensures ends { IfErr result
-        (λ e. OpeningEnds (capacities_of board.now) (D.state disk) (D.state e.0) e.1) }
+        (λ e. OpeningEnds (capacities_of setup.now.board) (D.state disk) (D.state e.0) e.1) }
     ensures untouched { IfErr result
         (λ e. Within D.state D.makes (Untouched (D.state disk)) disk e.0) }
 {
-    match Board::open(alloc, disk, LIFE, board) {
-        Ok(opened) => match Host::new(alloc, opened, board) {
+    match Board::open(alloc, disk, LIFE, setup.board()) {
+        Ok(opened) => match Host::new(alloc, opened, setup) {
             Ok(host) => Ok(host),
             Err(disk) => Err((disk, Fault::NoMemory)),
         },
@@ -145,18 +144,17 @@ fn finish<D: Disk>(host: Host<D>) -> (Result<(), Fault>, D)
 /// Takes all lines to their end, one after another, on the partitions of an image.
 fn run_on<D: Disk, W: Write>(
     alloc: Global,
-    board: &BoardConfig,
+    setup: &BoardSetup,
     lines: Vec<Line>,
     disk: D,
     out: &mut W,
 ) -> (Result<(), Fault>, D)
     requires sized { All (λ line. IsSized (said line)) lines.items }
-    requires within { AreWithin (length board.now) lines.items }
-    requires in_range { IsBoard board.now }
-    ensures { AnyMoment D.state D.makes board.now (map said lines.items) disk
+    requires within { AreWithin (length setup.now.board) lines.items }
+    ensures { AnyMoment D.state D.makes setup.now.board (map said lines.items) disk
         (W.contents out.old) result.0 result.1 (W.contents out.new) }
 {
-    let mut host = match open_host(alloc, disk, board) {
+    let mut host = match open_host(alloc, disk, setup) {
         Ok(host) => host,
         Err((disk, fault)) => return (Err(fault), disk),
     };
@@ -185,7 +183,7 @@ fn run_on<D: Disk, W: Write>(
 /// standard output took no more.
 pub fn run<D: Disk, W: Write>(
     alloc: Global,
-    board: &BoardConfig,
+    setup: &BoardSetup,
     script: &str,
     disk: D,
     out: &mut W,
@@ -194,30 +192,30 @@ pub fn run<D: Disk, W: Write>(
     // else, where no line stored into guest memory; and every stop leaves the partitions after
     // them.
     ensures ran { OnOk result.0
-        ((lines : List Said) → Says board.now script.now lines → StoresNothing lines
-        → Ran board.now (D.state disk) (D.state result.1) lines (W.contents out.old)
+        ((lines : List Said) → Says setup.now.board script.now lines → StoresNothing lines
+        → Ran setup.now.board (D.state disk) (D.state result.1) lines (W.contents out.old)
         (W.contents out.new)) }
     // Of a script with a bad line nothing is printed, and the disk isn't called.
-    ensures bad { (n : ℕ) → IsBadAt board.now script.now n
+    ensures bad { (n : ℕ) → IsBadAt setup.now.board script.now n
         → IsErr result.0 × Keeps (W.contents out.old) (W.contents out.new) × (result.1 ≡ disk) }
     ensures ends { IfErr result.0
-        (Ends (running script.now) board.now (D.state disk) (D.state result.1)) }
+        (Ends (running script.now) setup.now.board (D.state disk) (D.state result.1)) }
     // At each moment every stop leaves, for each guest, the partition after a prefix of what its
     // lines so far had accepted, with all that was accepted up to the last line that printed, until
     // a call of the disk fails; from then on with all that no stop could lose before. Each line,
     // also one that stores into guest memory, made the call of the host that it says, and a chain
     // printed what the host answered.
-    ensures moments { (lines : List Said) → Says board.now script.now lines
-        → AnyMoment D.state D.makes board.now lines disk (W.contents out.old) result.0 result.1
-        (W.contents out.new) }
+    ensures moments { (lines : List Said) → Says setup.now.board script.now lines
+        → AnyMoment D.state D.makes setup.now.board lines disk (W.contents out.old) result.0
+        result.1 (W.contents out.new) }
     // With a fault it has printed what a front of its lines prints, unless standard output took no
     // more; where a call of the disk failed, all that they print, with failures from then on.
     ensures stopped { IfErr result.0 (λ fault.
-        RunPrints board.now script.now (D.state disk) (D.state result.1) fault (W.contents out.old)
-        (W.contents out.new)) }
+        RunPrints setup.now.board script.now (D.state disk) (D.state result.1) fault
+        (W.contents out.old) (W.contents out.new)) }
 {
-    match read_lines(alloc, script, board) {
-        Ok(lines) => run_on(alloc, board, lines, disk, out),
+    match read_lines(alloc, script, setup) {
+        Ok(lines) => run_on(alloc, setup, lines, disk, out),
         Err(fault) => (Err(fault), disk),
     }
 }

@@ -18,6 +18,7 @@ use crate::script_by_guest::{part, read_served};
 use crate::used_lines::write_answer;
 use board::Board;
 use disk::Disk;
+use guest_driver::{BoardSetup, DriverConfig};
 use host::Answer;
 use rpmb_frame::BoardConfig;
 use script::Line;
@@ -101,6 +102,7 @@ fn serve_on<D: Disk + Send + Drop, W: Write, R: Threads + Wait + Sync>(
     rt: &R,
     alloc: Global,
     board: &BoardConfig,
+    configs: &[DriverConfig],
     lines: Vec<Line>,
     disk: D,
     out: &mut W,
@@ -127,7 +129,7 @@ fn serve_on<D: Disk + Send + Drop, W: Write, R: Threads + Wait + Sync>(
         Err((disk, fault)) => return (Err(Fault::of_image(fault)), Some(disk)),
     };
     let parts = parts_of(opened, board);
-    match workers::serve(rt, alloc, parts, board, scripts.as_slice(), &Open) {
+    match workers::serve(rt, alloc, parts, configs, scripts.as_slice(), &Open) {
         Ok(ended) => tell(alloc, ended, out),
         Err(fault) => (Err(Fault::of(fault)), None),
     }
@@ -147,33 +149,34 @@ fn serve_on<D: Disk + Send + Drop, W: Write, R: Threads + Wait + Sync>(
 /// output took no more.
 pub fn serve<R: AllocGlobal + Threads + Wait + Sync, D: Disk + Send + Drop, W: Write>(
     rt: &R,
-    board: &BoardConfig,
+    setup: &BoardSetup,
     script: &str,
     disk: D,
     out: &mut W,
 ) -> (Result<(), Fault>, Option<D>)
     // A line for each chain, guest by guest.
     ensures printed { OnOk result.0
-        (ServesAll board.now script.now (W.contents out.old) (W.contents out.new)) }
+        (ServesAll setup.now.board script.now (W.contents out.old) (W.contents out.new)) }
     ensures back { OnOk result.0 (IsSome result.1) }
     // The disk may be lost.
     ensures ends { IfErr result.0 (λ fault. (new : DiskState)
-        → Ends (serving script.now) board.now (D.state disk) new fault) }
+        → Ends (serving script.now) setup.now.board (D.state disk) new fault) }
     ensures prints { IfErr result.0 (λ fault.
-        ServePrints board.now script.now fault (W.contents out.old) (W.contents out.new)) }
+        ServePrints setup.now.board script.now fault (W.contents out.old) (W.contents out.new)) }
     ensures leaves { IfErr result.0 (λ fault. ServeLeaves D.state D.makes disk fault result.1) }
     // The threads alone called the disk once the image was opened, and at each moment every stop
     // leaves each partition as it was, with whole intents after it, one after another; with no
     // fault nothing is under way at the end.
-    ensures keeps { ServeKeeps D.state D.makes board.now disk result.0 result.1 }
+    ensures keeps { ServeKeeps D.state D.makes setup.now.board disk result.0 result.1 }
     // Of a script with such a line nothing is printed, and the disk isn't called.
-    ensures bad { (n : ℕ) → IsUnservedAt board.now script.now n
+    ensures bad { (n : ℕ) → IsUnservedAt setup.now.board script.now n
         → IsErr result.0 × Keeps (W.contents out.old) (W.contents out.new)
         × (result.1 ≡ Some disk) }
 {
     let alloc = rt.alloc();
+    let board = setup.board();
     match read_served(alloc, script, board) {
-        Ok(lines) => serve_on(rt, alloc, board, lines, disk, out),
+        Ok(lines) => serve_on(rt, alloc, board, setup.drivers(), lines, disk, out),
         Err(fault) => (Err(fault), Some(disk)),
     }
 }

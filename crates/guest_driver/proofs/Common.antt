@@ -11,9 +11,9 @@ pub use Rattle.std.proofs.lemmas.Nat.{mod_below}
 pub use Rattle.std.specs.Int.{is_power_of_two}
 pub use Rattle.std.specs.List.{flat_map, position_or_len}
 pub use Rattle.guest_memory.specs.Memory.{bytes_at, with_bytes}
-pub use Rattle.rpmb_frame.specs.Config.{IsQueueSize}
-pub use Rattle.rpmb_frame.specs.declared.config.RingKind.{RingKind}
-pub use Rattle.rpmb_frame.specs.declared.config.RingKind.TheVariants.{Split, Packed}
+pub use Rattle.guest_driver.specs.Config.{IsQueueSize}
+pub use Rattle.mmio_transport.specs.declared.ring_kind.RingKind.{RingKind}
+pub use Rattle.mmio_transport.specs.declared.ring_kind.RingKind.TheVariants.{Split, Packed}
 pub use Rattle.chains.specs.Descriptor.{has}
 pub use Rattle.chains.specs.Law.{IsList}
 pub use Rattle.chains.specs.Range.{bytes_of, most_gathered, scattered}

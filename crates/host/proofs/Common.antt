@@ -7,11 +7,10 @@ pub use Rattle.std.proofs.lemmas.List.{set-get_or}
 pub use Rattle.std.proofs.lemmas.Option.{slice_get_within, get_or_from_slice_get, slice_get-get_or}
 pub use Rattle.std.proofs.lemmas.Option.{slice_get-map}
 pub use Rattle.std.specs.Prelude.{slice_get, option_map, is_ok, not}
-pub use Rattle.rpmb_frame.specs.Config.{IsBoard, IsGuest}
 pub use Rattle.rpmb_frame.specs.Partition.{Partition}
 pub use Rattle.rpmb_frame.specs.Request.{Request}
 pub use Rattle.rpmb_frame.specs.declared.config.GuestConfig.{GuestConfig}
-pub use Rattle.rpmb_frame.specs.declared.config.RingKind.{RingKind}
+pub use Rattle.mmio_transport.specs.declared.ring_kind.RingKind.{RingKind}
 pub use Rattle.disk.specs.Disk.{DiskCall, DiskState}
 pub use Rattle.flusher.proofs.Guests.{get_set_same, set_cases}
 unfoldable pub use Rattle.mmio_transport.specs.Device.{
@@ -31,6 +30,8 @@ pub use Rattle.mmio_transport.specs.declared.fault.DeviceFault.TheVariants.{Need
 pub use Rattle.mmio_transport.specs.declared.fault.DeviceFault.TheVariants.{NoMemory as Starved}
 pub use Rattle.mmio_transport.specs.declared.fault.DeviceFault.TheVariants.{Refused as Spoiled}
 pub use Rattle.guest_driver.specs.Access.{ButForMemory}
+pub use Rattle.guest_driver.specs.Config.{AreDrivers, IsDriver, SetupState, config_of}
+pub use Rattle.guest_driver.specs.declared.config.DriverConfig.{DriverConfig}
 pub use Rattle.guest_driver.specs.Driver.{DriverState, offer_of, Offering, Adds, first_driver}
 pub use Rattle.guest_driver.specs.Driver.{TakesBy, after_offer, in_table_order, takes_two, owner}
 unfoldable pub use Rattle.guest_driver.specs.Negotiation.{negotiated, with_areas}
@@ -57,7 +58,7 @@ pub use Rattle.host.specs.Chain.{LooksAndReaps, ReapsOnce}
 pub use Rattle.queue_looks.specs.Fault.{told_of}
 pub use Rattle.host.specs.Finishing.{Finishes}
 unfoldable pub use Rattle.host.specs.Guest.{first_guest, after_reset}
-pub use Rattle.host.specs.Guest.{GuestView, stuck_by, view_of, first_guests, views_of, first_front}
+pub use Rattle.host.specs.Guest.{GuestView, stuck_by, view_of, views_of, first_front}
 pub use Rattle.host.specs.Guest.{StoresInto, with_stored, StoresIn, device_after_reset}
 pub use Rattle.host.specs.Guest.{front_after_reset}
 pub use Rattle.queue_looks.specs.Looks.{with_device, LooksOn, Share, OnShare, share_of, AnswerAll}

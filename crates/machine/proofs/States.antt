@@ -1,8 +1,8 @@
 -- What is saved of a device is what is read of its words.
 use Rattle.std.proofs.Common.{◌≡◌, refl, ap, ◌∙◌, ℕ, ◌+◌, ◌*◌, ◌/◌, ◌%◌, ◌<◌, Bool, true, false}
 use Rattle.std.proofs.Common.{not, ◌==◌, ◌&&◌, Option, Some, None, arith}
-use Rattle.rpmb_frame.specs.declared.config.RingKind.{RingKind}
-use Rattle.rpmb_frame.specs.declared.config.RingKind.TheVariants.{Split, Packed}
+use Rattle.mmio_transport.specs.declared.ring_kind.RingKind.{RingKind}
+use Rattle.mmio_transport.specs.declared.ring_kind.RingKind.TheVariants.{Split, Packed}
 use Rattle.std.specs.Prelude.{if◌then◌else◌}
 use Rattle.std.proofs.lemmas.Bool.{eq-eqb}
 use Rattle.mmio_transport.specs.declared.registers.Registers.{Registers}

@@ -1,8 +1,7 @@
 -- Which guests make a board, and what an image of it is at first and at an opening.
-use Rattle.std.specs.Prelude.{◌≡◌, ℕ, List, length, map, replicate, Ok, Err}
+use Rattle.std.specs.Prelude.{◌≡◌, ℕ, All, List, length, map, replicate, Ok, Err}
 use Rattle.rpmb_frame.specs.Config.{IsBoard}
 use Rattle.rpmb_frame.specs.declared.config.GuestConfig.{GuestConfig}
-use Rattle.rpmb_frame.specs.declared.config.RingKind.TheVariants.{Packed}
 use Rattle.disk.specs.Content.{content_of}
 use Rattle.disk.specs.Disk.{DiskState}
 use Rattle.disk.specs.FileDisk.{shown_as}
@@ -19,15 +18,16 @@ use Rattle.board.specs.Opening.{Begins, Calls, Finds, begun}
 use Rattle.board.specs.State.{BoardState}
 use Rattle.board.specs.Telling.{telling}
 use Rattle.machine.specs.Machine.{MachineState}
+use Rattle.machine.specs.Settings.{HasQueueInRange}
 use Rattle.machine.specs.Turn.{fresh_turn}
 use Rattle.machine.specs.declared.fault.MachineFault.{MachineFault}
 use Rattle.machine.specs.declared.fault.MachineFault.TheVariants as fault
 use Rattle.machine.specs.declared.settings.Setup.{Setup}
 
 -- How a guest is set up on its board, which asks for the ranges of a board file: a memory in their
--- range, and a ring that may have any number of places. What its device has is its setup's.
+-- range. What its device has is its setup's.
 abbrev pub on_board : Setup → GuestConfig
-on_board s = record s.config { memory = 67108864; ring = Packed }
+on_board s = record s.config { memory = 67108864 }
 
 abbrev pub configs_of : List Setup → List GuestConfig
 configs_of setups = map on_board setups
@@ -37,8 +37,9 @@ abbrev pub devices_of : List Setup → List GuestConfig
 devices_of setups = map (λ s. s.config) setups
 
 -- a board: 1 to 64 guests, each in range
-abbrev pub IsMonitored : List Setup → Type 0
-IsMonitored setups = IsBoard (configs_of setups)
+pub record IsMonitored (setups : List Setup) : Type 0 where
+  pub board : IsBoard (configs_of setups)
+  pub queues : All HasQueueInRange setups
 
 -- the length in bytes of its image
 abbrev pub length_of : List Setup → ℕ

@@ -1,7 +1,7 @@
 -- What a monitor asks of a guest's device beside the plain one. Section numbers are those of
 -- VIRTIO 1.2.
-use Rattle.std.specs.Prelude.{ℕ, ◌-◌, ◌/◌, ◌%◌, Bool, not, ◌&&◌, ◌||◌, ◌==◌, if◌then◌else◌}
-use Rattle.std.specs.Prelude.{bit_and, bit_or, nat_le, [], ◌∷◌}
+use Rattle.std.specs.Prelude.{ℕ, ◌-◌, ◌/◌, ◌%◌, ◌≤◌, Bool, not, ◌&&◌, ◌||◌, ◌==◌, if◌then◌else◌}
+use Rattle.std.specs.Prelude.{bit_and, bit_or, nat_le, [], ◌∷◌, Option, None, Some, is_none}
 use Rattle.rpmb_frame.specs.Table.{first_row}
 use Rattle.mmio_transport.specs.Asking.{AskingState, after_asked_write}
 use Rattle.mmio_transport.specs.Device.{DeviceState, read_value}
@@ -21,7 +21,20 @@ withheld_of w half = first_row (
 
 -- no feature is withheld or added, and QueueNumMax is the device's
 unfoldable pub is_plain : Setup → Bool
-is_plain w = w.withheld == 0 && not w.capped && not w.platform
+is_plain w = w.withheld == 0 && is_none w.queue && not w.platform
+
+-- what QueueNumMax reads, where the device tells so many places
+abbrev pub places_shown : Option ℕ → ℕ → ℕ
+places_shown None value = value
+places_shown (Some queue) value = if value == 0 then value else queue
+
+abbrev pub IsQueueInRange : Option ℕ → Type 0
+IsQueueInRange None = Unit {0}
+IsQueueInRange (Some queue) = (2 ≤ queue) × (queue ≤ 256)
+
+-- what QueueNumMax is to read is a number of places that it may read
+abbrev pub HasQueueInRange : Setup → Type 0
+HasQueueInRange w = IsQueueInRange w.queue
 
 -- the features that are shown of a half, of those that the device offers
 unfoldable pub features_shown : Setup → ℕ → ℕ → ℕ
@@ -46,10 +59,7 @@ value_shown w d offset width = first_row (
       offset == register.device_features,
       features_shown w d.registers.device_features_sel (read_value d offset width),
     )
-    ∷ (
-      offset == register.queue_num_max && w.capped && not (read_value d offset width == 0),
-      w.config.queue,
-    )
+    ∷ (offset == register.queue_num_max, places_shown w.queue (read_value d offset width))
     ∷ []) (read_value d offset width)
 
 -- what the device gets of a value that is written

@@ -3,8 +3,8 @@
 use Rattle.std.specs.Prelude.{ℕ, ◌+◌, ◌*◌, ◌/◌, ◌%◌, ◌==◌, ◌&&◌, not, Bool, if◌then◌else◌, List}
 use Rattle.std.specs.Prelude.{length, Option, Some, None, slice_get, [], ◌∷◌, ◌++◌, false}
 use Rattle.std.specs.Prelude.{unwrap_or}
-use Rattle.rpmb_frame.specs.declared.config.RingKind.{RingKind}
-use Rattle.rpmb_frame.specs.declared.config.RingKind.TheVariants.{Split, Packed}
+use Rattle.mmio_transport.specs.declared.ring_kind.RingKind.{RingKind}
+use Rattle.mmio_transport.specs.declared.ring_kind.RingKind.TheVariants.{Split, Packed}
 use Rattle.chains.specs.declared.places.Places.{Places}
 use Rattle.mmio_transport.specs.declared.registers.Registers.{Registers}
 use Rattle.mmio_transport.specs.declared.saving.RestingDevice.{RestingDevice}

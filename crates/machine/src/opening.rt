@@ -21,7 +21,7 @@ use board::AskingBoard;
 use disk::{MemDisk, OutboxDisk, Told};
 use intent_slots::Layout;
 use recovery::format2;
-use rpmb_frame::{BoardConfig, GuestConfig, RingKind};
+use rpmb_frame::{BoardConfig, GuestConfig};
 use std::alloc::Global;
 
 /// The number of the life: no reply outlives its board, so one number does.
@@ -32,14 +32,12 @@ const LIFE: u64 = 1;
 const BOARD_MEMORY: u64 = 67_108_864;
 
 impl Setup {
-    /// How the guest is set up on its board. The rings that a driver may choose are no business of
-    /// it: a packed one may have any number of places.
+    /// How the guest is set up on its board.
     fn on_board(&self) -> GuestConfig
         ensures { result ≡ on_board self.now }
     {
         GuestConfig {
             memory: BOARD_MEMORY,
-            ring: RingKind::Packed,
             ..self.config
         }
     }
@@ -81,6 +79,9 @@ fn board_of(alloc: Global, setups: &[Setup]) -> Result<BoardConfig, MachineFault
     ensures bad { result ≡ Err MachineFault.BadBoard → ¬ IsMonitored setups.now }
     ensures length { ¬ (result ≡ Err MachineFault.BadLength) }
 {
+    if !setups.iter().all(|setup| setup.has_queue_in_range()) {
+        return Err(MachineFault::BadBoard);
+    }
     let guests = configs(alloc, setups)?;
     match BoardConfig::new(guests) {
         Ok(board) => Ok(board),

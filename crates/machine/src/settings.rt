@@ -1,9 +1,10 @@
 //! What a monitor asks of a guest's device beside the plain one. The device itself knows nothing
 //! of it.
-ghost use Rattle.std.specs.Prelude.{◌≡◌, true};
+ghost use Rattle.std.specs.Prelude.{◌≡◌, ◌↔◌, IsTrue, true};
 ghost use Rattle.mmio_transport.specs.Device.{read_value};
 ghost use Rattle.machine.specs.Settings.{is_plain, withheld_of, features_shown, features_taken};
 ghost use Rattle.machine.specs.Settings.{value_shown, value_taken, most_of};
+ghost use Rattle.machine.specs.Settings.{HasQueueInRange, places_shown};
 
 use mmio_transport::{AskingDevice, register};
 use rpmb_book::HELD;
@@ -23,8 +24,8 @@ pub struct Setup {
     pub withheld: u64,
     /// How many chains may be popped and not yet answered; 0, and all above, is 64.
     pub most: u16,
-    /// Whether QueueNumMax reads the configuration's `queue`, and not 256.
-    pub capped: bool,
+    /// What QueueNumMax reads, 2 to 256; without it 256.
+    pub queue: Option<u16>,
     /// Whether VIRTIO_F_ACCESS_PLATFORM, 33, is offered, and taken.
     pub platform: bool,
 }
@@ -83,8 +84,28 @@ impl Setup {
         }
         match offset {
             register::DEVICE_FEATURES => self.features_shown(device.device_features_sel(), value),
-            register::QUEUE_NUM_MAX if self.capped && value != 0 => self.config.queue as u32,
+            register::QUEUE_NUM_MAX => self.places_shown(value),
             _ => value,
+        }
+    }
+
+    /// What QueueNumMax reads, where the device tells so many: 0 of a queue that there is not.
+    fn places_shown(&self, value: u32) -> u32
+        ensures { result ≡ places_shown self.now.queue value }
+    {
+        match self.queue {
+            Some(queue) if value != 0 => u32::from(queue),
+            _ => value,
+        }
+    }
+
+    /// Whether what QueueNumMax is to read is in its range.
+    pub(crate) fn has_queue_in_range(&self) -> bool
+        ensures { IsTrue result ↔ HasQueueInRange self.now }
+    {
+        match self.queue {
+            Some(queue) => (2..=256).contains(&queue),
+            None => true,
         }
     }
 
@@ -93,7 +114,7 @@ impl Setup {
     fn is_plain(&self) -> bool
         ensures { result ≡ is_plain self.now }
     {
-        self.withheld == 0 && !self.capped && !self.platform
+        self.withheld == 0 && self.queue.is_none() && !self.platform
     }
 
     /// What the device gets where its driver writes this value.

@@ -6,8 +6,7 @@ ghost use Rattle.machine.specs.State.{header_words, queue_words, ready_number, r
 
 use crate::settings::Setup;
 use chains::Places;
-use mmio_transport::{Interrupts, Registers, RestingDevice, RestingQueue, Status};
-use rpmb_frame::RingKind;
+use mmio_transport::{Interrupts, Registers, RestingDevice, RestingQueue, RingKind, Status};
 
 /// How many words a state has.
 pub const STATE_WORDS: usize = 50;

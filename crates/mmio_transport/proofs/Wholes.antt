@@ -7,8 +7,8 @@ use Rattle.chains.specs.declared.range.Range.{Range}
 use Rattle.chains.specs.Range.{AreHeld, AreInside}
 use Rattle.chains.specs.Ring.{RingState}
 use Rattle.chains.proofs.Helds.{whole_held}
-use Rattle.rpmb_frame.specs.declared.config.RingKind.{RingKind}
-use Rattle.rpmb_frame.specs.declared.config.RingKind.TheVariants as kinds
+use Rattle.mmio_transport.specs.declared.ring_kind.RingKind.{RingKind}
+use Rattle.mmio_transport.specs.declared.ring_kind.RingKind.TheVariants as kinds
 use Rattle.mmio_transport.specs.Queue.{QueueState, AreasInside, used_held}
 use Rattle.mmio_transport.specs.Job.{Done}
 use Rattle.mmio_transport.specs.Device.{IsDevice}

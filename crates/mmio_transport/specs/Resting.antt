@@ -4,8 +4,8 @@ use Rattle.std.specs.Prelude.{◌≡◌, ◌<◌, ◌≤◌, ℕ, ◌+◌, ◌*�
 use Rattle.std.specs.Prelude.{if◌then◌else◌, nat_lt, nat_le, max, List, [], length, Option, Some}
 use Rattle.std.specs.Prelude.{None}
 use Rattle.chains.specs.Ring.{resting, may_rest}
-use Rattle.rpmb_frame.specs.declared.config.RingKind.{RingKind}
-use Rattle.rpmb_frame.specs.declared.config.RingKind.TheVariants.{Split, Packed}
+use Rattle.mmio_transport.specs.declared.ring_kind.RingKind.{RingKind}
+use Rattle.mmio_transport.specs.declared.ring_kind.RingKind.TheVariants.{Split, Packed}
 use Rattle.mmio_transport.specs.declared.saving.RestingQueue.{RestingQueue}
 use Rattle.mmio_transport.specs.declared.saving.RestingDevice.{RestingDevice}
 use Rattle.mmio_transport.specs.Asking.{AskingState}

@@ -7,10 +7,10 @@ ghost use Rattle.mmio_transport.specs.Device.{counted};
 use crate::asking::{AskingDevice, counted};
 use crate::queue::Queue;
 use crate::registers::Registers;
+use crate::ring_kind::RingKind;
 use crate::setup::MOST_PLACES;
 use chains::{Places, may_rest};
 use guest_memory::Memory;
-use rpmb_frame::RingKind;
 use std::alloc::Global;
 
 /// Where a queue rests: each chain that was popped is used.

@@ -12,7 +12,8 @@ use commands::{
     write_reason,
 };
 use disk::{Disk, FileDisk};
-use rpmb_frame::{BoardConfig, GuestConfig};
+use guest_driver::BoardSetup;
+use rpmb_frame::GuestConfig;
 use script::read_number;
 
 /// What a script of requests is called where it is told of.
@@ -40,7 +41,7 @@ fn ends_so(lines: &[u8], end: &str) -> bool {
 pub struct Place<'a> {
     file: &'a str,
     guest: &'a str,
-    board: BoardConfig,
+    setup: BoardSetup,
     image: String,
 }
 
@@ -64,18 +65,18 @@ impl<'a> Place<'a> {
     /// Reads a board file. Refused where it can't be read, is no board, names no image, or lacks the
     /// guest.
     pub fn of(rt: &HostRuntime, file: &'a str, guest: &'a str) -> Result<Place<'a>, Stop> {
-        let (board, image) = match read_image_board(rt, file) {
+        let (setup, image) = match read_image_board(rt, file) {
             Ok(read) => read,
             Err(refusal) => return Err(told(rt, &refusal)),
         };
         let place = Place {
             file,
             guest,
-            board,
+            setup,
             image,
         };
         if place.last_block().is_none() {
-            tell_no_guest(rt, file, guest, place.board.guests().len());
+            tell_no_guest(rt, file, guest, place.setup.board().guests().len());
             return Err(Stop { status: 1 });
         }
         Ok(place)
@@ -92,7 +93,7 @@ impl<'a> Place<'a> {
 
     /// How the guest is set up, where the board has it.
     fn config(&self) -> Option<&GuestConfig> {
-        let guests = self.board.guests();
+        let guests = self.setup.board().guests();
         read_number(self.guest).and_then(|number| guests.get(number as usize))
     }
 
@@ -173,7 +174,7 @@ impl<'a> Place<'a> {
                 board: self.file,
                 script: REQUEST,
             },
-            board: &self.board,
+            setup: &self.setup,
             script,
             image: Some(self.image.as_str()),
         };
@@ -193,11 +194,12 @@ impl<'a> Place<'a> {
         disk: D,
         answers: &mut Vec<u8>,
     ) -> Result<D, Stop>
-        ensures { IfOk result (λ left. (lines : List Said) → Says self.now.board script.now lines
-            → StoresNothing lines → Ran self.now.board (D.state disk) (D.state left) lines
+        ensures { IfOk result (λ left. (lines : List Said)
+            → Says self.now.setup.board script.now lines → StoresNothing lines
+            → Ran self.now.setup.board (D.state disk) (D.state left) lines
             (Some answers.old.items) (Some answers.new.items)) }
     {
-        let (ended, mut disk) = run(rt.alloc(), &self.board, script, disk, answers);
+        let (ended, mut disk) = run(rt.alloc(), &self.setup, script, disk, answers);
         match ended {
             Ok(()) => Ok(disk),
             Err(fault) => Err(self.tell_fault(rt, script, fault, &mut disk, answers)),

@@ -32,7 +32,10 @@ fn board_in<'a>(
         return Err(Refusal::File(FileRefusal::NoText, file));
     };
     match read_board(alloc, text) {
-        Ok((config, image)) => Ok(Board { config, image }),
+        Ok((setup, image)) => Ok(Board {
+            config: setup.into_board(),
+            image,
+        }),
         Err(BoardError::BadBoard(words)) => {
             *flaw = words;
             Err(Refusal::File(FileRefusal::BadBoard, file))

@@ -1,13 +1,11 @@
 -- The guests of a board, as C lays them out (own).
-use Rattle.std.specs.Prelude.{true, false, not, ◌==◌, if◌then◌else◌}
-use Rattle.rpmb_frame.specs.declared.config.RingKind.TheVariants.{Packed}
+use Rattle.std.specs.Prelude.{not, ◌==◌, if◌then◌else◌, None, Some}
 use Rattle.machine.specs.declared.settings.Setup.{Setup}
 use Rattle.machine.specs.declared.starting.Areas.{Areas}
 use Rattle.rpmb_host.specs.declared.guests.RpmbGuest.{RpmbGuest}
 use Rattle.rpmb_host.specs.declared.queue.RpmbQueue.{RpmbQueue}
 
--- One of them for a machine. What its driver accepts is its own matter: the configuration's ring
--- and three last fields speak of the project's own driver, and count for nothing here.
+-- one of them for a machine
 unfoldable pub setup_of : RpmbGuest → Setup
 setup_of g = record {
   config = record {
@@ -15,15 +13,10 @@ setup_of g = record {
     max_wr_cnt = g.max_wr_cnt;
     max_rd_cnt = g.max_rd_cnt;
     memory = g.memory;
-    queue = if g.queue == 0 then 256 else g.queue;
-    ring = Packed;
-    indirect = true;
-    event_idx = true;
-    in_order = false;
   };
   withheld = g.withheld;
   most = g.most;
-  capped = not (g.queue == 0);
+  queue = if g.queue == 0 then None else Some g.queue;
   platform = not (g.platform == 0);
 }
 

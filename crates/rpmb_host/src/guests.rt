@@ -3,7 +3,7 @@ ghost use Rattle.std.specs.Prelude.{◌≡◌, IfOk, OnErr, Err, map};
 ghost use Rattle.rpmb_host.specs.Guests.{setup_of};
 
 use machine::{MachineFault, Setup};
-use rpmb_frame::{GuestConfig, RingKind};
+use rpmb_frame::GuestConfig;
 use std::alloc::Global;
 
 /// One guest: `struct rpmb_guest` of `rpmb_host.h`, which says what each number may be.
@@ -31,15 +31,13 @@ impl RpmbGuest {
                 max_wr_cnt: self.max_wr_cnt,
                 max_rd_cnt: self.max_rd_cnt,
                 memory: self.memory,
-                queue: if self.queue == 0 { 256 } else { self.queue },
-                ring: RingKind::Packed,
-                indirect: true,
-                event_idx: true,
-                in_order: false,
             },
             withheld: self.withheld,
             most: self.most,
-            capped: self.queue != 0,
+            queue: match self.queue {
+                0 => None,
+                queue => Some(queue),
+            },
             platform: self.platform != 0,
         }
     }

@@ -2,7 +2,9 @@
 //! ones that are refused.
 
 use board_file::read_board;
-use rpmb_frame::{BoardConfig, GuestConfig, RingKind};
+use guest_driver::{BoardSetup, DriverConfig};
+use mmio_transport::RingKind;
+use rpmb_frame::GuestConfig;
 use std::test::Fail;
 
 /// A board file that is read.
@@ -12,6 +14,8 @@ struct BoardFile {
     count: usize,
     /// The last of them.
     last: GuestConfig,
+    /// How its driver sets up its queue.
+    driver: DriverConfig,
     /// The path of its image, or nothing.
     image: &'static str,
 }
@@ -21,6 +25,9 @@ const DEFAULTS: GuestConfig = GuestConfig {
     max_wr_cnt: 16,
     max_rd_cnt: 16,
     memory: 1_048_576,
+};
+
+const DRIVER: DriverConfig = DriverConfig {
     queue: 16,
     ring: RingKind::Split,
     indirect: false,
@@ -33,6 +40,7 @@ const ALONE: BoardFile = BoardFile {
     text: "[[guest]]\ncapacity = 1",
     count: 1,
     last: DEFAULTS,
+    driver: DRIVER,
     image: "",
 };
 
@@ -66,9 +74,11 @@ static READ: [BoardFile; 6] = [
             max_wr_cnt: 1,
             max_rd_cnt: 1,
             memory: 65_536,
+        },
+        driver: DriverConfig {
             queue: 2,
             event_idx: false,
-            ..DEFAULTS
+            ..DRIVER
         },
         ..ALONE
     },
@@ -78,31 +88,38 @@ static READ: [BoardFile; 6] = [
             memory = 65536",
         last: GuestConfig {
             memory: 65_536,
+            ..DEFAULTS
+        },
+        driver: DriverConfig {
             queue: 3,
             ring: RingKind::Packed,
             indirect: true,
-            ..DEFAULTS
+            ..DRIVER
         },
         ..ALONE
     },
 ];
 
 impl BoardFile {
-    fn names(&self, board: &BoardConfig, image: Option<&String>) -> bool {
-        let guests = board.guests();
+    fn names(&self, setup: &BoardSetup, image: Option<&String>) -> bool {
+        let (guests, drivers) = (setup.board().guests(), setup.drivers());
         let path = match image {
             Some(path) => path.as_str(),
             None => "",
         };
-        guests.len() == self.count && guests.last() == Some(&self.last) && path == self.image
+        guests.len() == self.count
+            && guests.last() == Some(&self.last)
+            && drivers.len() == self.count
+            && drivers.last() == Some(&self.driver)
+            && path == self.image
     }
 }
 
 #[test]
 fn reads_boards(rt: HostRuntime) -> Result<(), Fail> {
     for (at, file) in READ.iter().enumerate() {
-        let (board, image) = read_board(rt.alloc(), file.text)?;
-        assert!(rt; file.names(&board, image.as_ref()), "at file {at}");
+        let (setup, image) = read_board(rt.alloc(), file.text)?;
+        assert!(rt; file.names(&setup, image.as_ref()), "at file {at}");
     }
     Ok(())
 }
@@ -114,13 +131,15 @@ static CAPACITIES: [(&str, u8); 3] = [
     ("[[guest]]\ncapacity = 128\n", 128),
 ];
 
-/// A guest that names its capacity alone is the one that other tests take.
+/// A guest that names its capacity alone, and its driver, are those that other tests take.
 #[test]
 fn reads_capacities_alone(rt: HostRuntime) -> Result<(), Fail> {
     for (text, capacity) in &CAPACITIES {
-        let (board, image) = read_board(rt.alloc(), *text)?;
+        let (setup, image) = read_board(rt.alloc(), *text)?;
         let guest = GuestConfig::of_capacity(*capacity);
-        let is_alone = board.guests() == [guest].as_slice() && image.is_none();
+        let is_alone = setup.board().guests() == [guest].as_slice()
+            && setup.drivers() == [DriverConfig::usual()].as_slice()
+            && image.is_none();
         assert!(rt; is_alone, "capacity {capacity}");
     }
     Ok(())

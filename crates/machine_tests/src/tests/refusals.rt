@@ -43,7 +43,7 @@ fn shows_what_was_asked<M: Calls>(rig: &mut Rig<M>) -> bool {
 fn features_are_shown_as_was_asked(rt: HostRuntime) -> Result<(), Fail> {
     let mut asked = plain();
     asked.withheld = u64::from(INDIRECT);
-    asked.capped = true;
+    asked.queue = Some(2);
     asked.platform = true;
     try_fresh(rt.alloc(), &[plain()], shows_all)?;
     try_fresh(rt.alloc(), &[asked], shows_what_was_asked)

@@ -19,12 +19,11 @@ const MANY: u32 = 300;
 pub fn plain() -> Setup {
     let mut config = GuestConfig::of_capacity(1);
     config.memory = HIGH + REGION;
-    config.queue = 2;
     Setup {
         config,
         withheld: 0,
         most: 0,
-        capped: false,
+        queue: None,
         platform: false,
     }
 }

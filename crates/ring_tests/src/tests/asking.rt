@@ -110,7 +110,6 @@ static PACKED: Case = Case {
 fn device_of(alloc: Global, features: (u32, u32)) -> AskingDevice {
     let config = GuestConfig {
         memory: 1 << 40,
-        queue: 8,
         ..GuestConfig::of_capacity(1)
     };
     let mut device = AskingDevice::new(alloc, 7, &config);

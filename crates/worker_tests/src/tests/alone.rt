@@ -1,7 +1,7 @@
 //! What guests are told that are served at once is what each is told by a host that serves one
 //! chain at a time.
 use crate::tests::runs::{Ending, Look, run_openly};
-use crate::tests::scene::{Step, adds_script, board_of, check, formatted, script_of};
+use crate::tests::scene::{Step, adds_script, check, formatted, script_of, setup_of};
 use board::Board;
 use disk::MemDisk;
 use host::{Answer, Host};
@@ -73,14 +73,14 @@ fn all_told<H: Tells>(alloc: Global, host: &mut H, scripts: &[Script]) -> Option
 }
 
 fn host_of(alloc: Global, guests: usize) -> Option<Host<MemDisk>> {
-    let Some(board) = board_of(alloc, guests) else {
+    let Some(setup) = setup_of(alloc, guests) else {
         return None;
     };
     let Some(disk) = formatted(alloc, guests) else {
         return None;
     };
-    match Board::open(alloc, disk, 1, &board) {
-        Ok(opened) => Host::new(alloc, opened, &board).ok(),
+    match Board::open(alloc, disk, 1, setup.board()) {
+        Ok(opened) => Host::new(alloc, opened, &setup).ok(),
         Err(_) => None,
     }
 }

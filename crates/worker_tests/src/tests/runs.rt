@@ -4,7 +4,7 @@ ghost use Rattle.rpmb_book.specs.Book.{counted_in};
 ghost use Rattle.workers.specs.Following.{Follow};
 
 use crate::tests::devices::{Other, change_all};
-use crate::tests::scene::{board_of, formatted};
+use crate::tests::scene::{formatted, setup_of};
 use board::{Board, Parts};
 use disk::Disk;
 use host::HostFault;
@@ -107,17 +107,18 @@ pub fn run<D: Disk + Send + Drop, G: Gate + Sync, R: Threads + Wait + Sync, L: L
     gate: &G,
     look: &L,
 ) -> Option<Result<bool, HostFault>> {
-    let Some(board) = board_of(alloc, scripts.len()) else {
+    let Some(setup) = setup_of(alloc, scripts.len()) else {
         return None;
     };
+    let board = setup.board();
     if board.guests().len() != scripts.len() {
         return None;
     }
-    let Some(mut parts) = opened(alloc, disk, &board) else {
+    let Some(mut parts) = opened(alloc, disk, board) else {
         return None;
     };
     let are_changed = change_all(alloc, &mut parts.devices, others);
-    match serve(rt, alloc, parts, &board, scripts, gate) {
+    match serve(rt, alloc, parts, setup.drivers(), scripts, gate) {
         Ok(ended) => Some(Ok(are_changed && look.is_met(&ended))),
         Err(fault) => Some(Err(fault)),
     }

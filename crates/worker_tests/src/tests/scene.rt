@@ -1,5 +1,6 @@
 //! Boards of guests that aren't all alike, fresh images of them, and what their guests do.
 use disk::{Disk, MemDisk};
+use guest_driver::{BoardSetup, DriverConfig};
 use hmac256::mac_of;
 use intent_slots::Layout;
 use recovery::format;
@@ -12,11 +13,11 @@ pub fn check(holds: bool, what: &'static str) -> Result<(), Fail> {
     if holds { Ok(()) } else { Err(Fail::from(what)) }
 }
 
-/// A guest of one unit; every third one has a queue of 32 places and no event index.
-fn guest_of(number: usize) -> GuestConfig {
-    let usual = GuestConfig::of_capacity(1);
+/// Every third driver has a queue of 32 places and no event index.
+fn driver_of(number: usize) -> DriverConfig {
+    let usual = DriverConfig::usual();
     if number % 3 == 2 {
-        GuestConfig {
+        DriverConfig {
             queue: 32,
             event_idx: false,
             ..usual
@@ -26,15 +27,26 @@ fn guest_of(number: usize) -> GuestConfig {
     }
 }
 
-/// A board of guests that aren't all alike.
-pub fn board_of(alloc: Global, guests: usize) -> Option<BoardConfig> {
-    let mut configs = Vec::new(alloc);
+/// A board of guests of one unit.
+fn board_of(alloc: Global, guests: usize) -> Option<BoardConfig> {
+    match vec![in alloc; GuestConfig::of_capacity(1); guests] {
+        Ok(guests) => BoardConfig::new(guests).ok(),
+        Err(_) => None,
+    }
+}
+
+/// Such a board, whose drivers aren't all alike.
+pub fn setup_of(alloc: Global, guests: usize) -> Option<BoardSetup> {
+    let mut drivers = Vec::new(alloc);
     for number in 0..guests {
-        if configs.push(guest_of(number)).is_err() {
+        if drivers.push(driver_of(number)).is_err() {
             return None;
         }
     }
-    BoardConfig::new(configs).ok()
+    match board_of(alloc, guests) {
+        Some(board) => BoardSetup::new(board, drivers).ok(),
+        None => None,
+    }
 }
 
 fn is_formatted(disk: &mut MemDisk, board: &BoardConfig) -> bool {

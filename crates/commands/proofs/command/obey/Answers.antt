@@ -5,9 +5,9 @@ use Rattle.commands.proofs.command.obey.Goals as goal
 
 pub returns-in-Format : goal.returns-in-Format
 returns-in-Format g c =
-    let r = c.format-done in
-    subst (λ (k : Command). Does g.D.Disk.state g.D.Disk.makes k c.args.board.now c.args.script.now
-    c.args.disk (g.W.Write.contents c.args.out.now) r.result (Some r.new.disk)
+    rw (sym c.board-board.ensures) (let r = c.format-done in
+    subst (λ (k : Command). Does g.D.Disk.state g.D.Disk.makes k c.board-board.result.now
+    c.args.script.now c.args.disk (g.W.Write.contents c.args.out.now) r.result (Some r.new.disk)
     (g.W.Write.contents r.new.out)) (sym c.in-Format.is)
     (record {
       formatted = r.ensures.formatted;
@@ -15,13 +15,13 @@ returns-in-Format g c =
       ends = r.ensures.ends;
       silent = r.ensures.silent;
       order = r.ensures.order;
-    })
+    }))
 
 pub returns-in-Show : goal.returns-in-Show
 returns-in-Show g c =
-    let r = c.show-done in
-    subst (λ (k : Command). Does g.D.Disk.state g.D.Disk.makes k c.args.board.now c.args.script.now
-    c.args.disk (g.W.Write.contents c.args.out.now) r.result.0 (Some r.result.1)
+    rw (sym c.board-board.ensures) (let r = c.show-done in
+    subst (λ (k : Command). Does g.D.Disk.state g.D.Disk.makes k c.board-board.result.now
+    c.args.script.now c.args.disk (g.W.Write.contents c.args.out.now) r.result.0 (Some r.result.1)
     (g.W.Write.contents r.new.out)) (sym c.in-Show.is)
     (record {
       shown = r.ensures.shown;
@@ -31,13 +31,13 @@ returns-in-Show g c =
           r.ensures.silent;
       any_moment = r.ensures.any_moment;
       calls = r.ensures.calls;
-    })
+    }))
 
 pub returns-in-Upgrade : goal.returns-in-Upgrade
 returns-in-Upgrade g c =
-    let r = c.upgrade-done in
-    subst (λ (k : Command). Does g.D.Disk.state g.D.Disk.makes k c.args.board.now c.args.script.now
-    c.args.disk (g.W.Write.contents c.args.out.now) r.result (Some r.new.disk)
+    rw (sym c.board-board.ensures) (let r = c.upgrade-done in
+    subst (λ (k : Command). Does g.D.Disk.state g.D.Disk.makes k c.board-board.result.now
+    c.args.script.now c.args.disk (g.W.Write.contents c.args.out.now) r.result (Some r.new.disk)
     (g.W.Write.contents r.new.out)) (sym c.in-Upgrade.is)
     (record {
       stands = r.ensures.stands;
@@ -48,13 +48,13 @@ returns-in-Upgrade g c =
       ends = r.ensures.ends;
       silent =
           r.ensures.silent;
-    })
+    }))
 
 pub returns-in-Run : goal.returns-in-Run
 returns-in-Run g c =
     let r = c.run-done in
-    subst (λ (k : Command). Does g.D.Disk.state g.D.Disk.makes k c.args.board.now c.args.script.now
-    c.args.disk (g.W.Write.contents c.args.out.now) r.result.0 (Some r.result.1)
+    subst (λ (k : Command). Does g.D.Disk.state g.D.Disk.makes k c.args.setup.now.board
+    c.args.script.now c.args.disk (g.W.Write.contents c.args.out.now) r.result.0 (Some r.result.1)
     (g.W.Write.contents r.new.out)) (sym c.in-Run.is)
     (record {
       ran = r.ensures.ran;
@@ -68,8 +68,8 @@ returns-in-Run g c =
 pub returns-in-Serve : goal.returns-in-Serve
 returns-in-Serve g c =
     let r = c.serve in
-    subst (λ (k : Command). Does g.D.Disk.state g.D.Disk.makes k c.args.board.now c.args.script.now
-    c.args.disk (g.W.Write.contents c.args.out.now) r.result.0 r.result.1
+    subst (λ (k : Command). Does g.D.Disk.state g.D.Disk.makes k c.args.setup.now.board
+    c.args.script.now c.args.disk (g.W.Write.contents c.args.out.now) r.result.0 r.result.1
     (g.W.Write.contents r.new.out)) (sym c.in-Serve.is)
     (record {
       printed = r.ensures.printed;

@@ -1,7 +1,6 @@
 //! The place at which a queue rests, in 16 bits (VIRTIO 1.2, 2.7.6 and 2.8.1).
 use chains::Places;
-use mmio_transport::RestingQueue;
-use rpmb_frame::RingKind;
+use mmio_transport::{RestingQueue, RingKind};
 use std::test::Fail;
 
 /// How many places were used, and the place that is told, of a queue of so many places.

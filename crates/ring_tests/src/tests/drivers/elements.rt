@@ -1,15 +1,14 @@
 //! Elements of the used ring that the guest wrote itself, and what a reap says of them.
-use super::{Form, GUEST, Pair, Turn, go};
+use super::{DRIVER, Form, Pair, Turn, go};
 use crate::tests::devices::stores;
-use guest_driver::DriverFault;
-use mmio_transport::Device;
-use rpmb_frame::{DriverLayout, RingKind};
+use guest_driver::{DriverFault, DriverLayout};
+use mmio_transport::{Device, RingKind};
 use std::test::Fail;
 
 // Stores the index and the first element of the used ring, at the device's area of the driver's
 // layout.
 fn puts_element(device: &mut Device, id: u32, len: u32) -> bool {
-    let area = DriverLayout::of(RingKind::Split, GUEST.queue).device_area;
+    let area = DriverLayout::of(RingKind::Split, DRIVER.queue).device_area;
     let at = area.min(131072);
     stores(device, at + 4, &id.to_le_bytes())
         && stores(device, at + 8, &len.to_le_bytes())

@@ -2,8 +2,7 @@
 use super::{Turn, WROTE, go, go_forms};
 use crate::tests::devices::step::Step;
 use guest_driver::DriverFault;
-use mmio_transport::Published;
-use rpmb_frame::RingKind;
+use mmio_transport::{Published, RingKind};
 use std::test::Fail;
 
 // With IN_ORDER the reply to the second of two chains is dropped, until that to the first was

@@ -1,10 +1,10 @@
 //! Queues that a device takes, and those that it doesn't, in memory that held other bytes.
-use super::{FORMS, Form, Pair, Turn, go_once, guest_of, offers};
+use super::{FORMS, Form, GUEST, Pair, Turn, driver_of, go_once, offers};
 use crate::tests::devices::step::Step;
 use crate::tests::devices::stores;
-use guest_driver::DriverFault;
-use mmio_transport::Device;
-use rpmb_frame::{GuestConfig, RingKind};
+use guest_driver::{DriverConfig, DriverFault};
+use mmio_transport::{Device, RingKind};
+use rpmb_frame::GuestConfig;
 use std::alloc::Global;
 use std::test::Fail;
 
@@ -30,19 +30,26 @@ static NOT_TAKEN: [Turn; 3] = [
     Turn::Device(Step::Pops(Ok(None))),
 ];
 
+// A guest with room for the largest queue.
+fn roomy() -> GuestConfig {
+    GuestConfig {
+        memory: 8_388_608,
+        ..GUEST
+    }
+}
+
 // A queue of this form and so many places, with this feature, and whether a device takes it.
 type Queue = (Form, u16, bool, bool);
 
 fn go_with_queue(alloc: Global, queue: &Queue) -> Result<(), Fail> {
     let (form, places, event_idx, answer) = *queue;
-    let guest = GuestConfig {
+    let driver = DriverConfig {
         queue: places,
         event_idx,
-        memory: 8_388_608,
-        ..guest_of(form)
+        ..driver_of(form)
     };
     let turns = if answer { &TAKEN } else { &NOT_TAKEN };
-    go_once(alloc, 0, &guest, &guest, turns)
+    go_once(alloc, 0, &roomy(), &driver, turns)
 }
 
 // Sizes of split queues are powers of two (VIRTIO 1.2, 2.7), and the device has at most 256 places.
@@ -82,12 +89,11 @@ pub fn takes_256(pair: &mut Pair) -> bool {
 static FILLED: [Turn; 2] = [Turn::Negotiates(true), Turn::Takes256];
 
 fn fill_queue(alloc: Global, form: Form) -> Result<(), Fail> {
-    let guest = GuestConfig {
+    let driver = DriverConfig {
         queue: 256,
-        memory: 8_388_608,
-        ..guest_of(form)
+        ..driver_of(form)
     };
-    go_once(alloc, 0, &guest, &guest, &FILLED)
+    go_once(alloc, 0, &roomy(), &driver, &FILLED)
 }
 
 #[test]

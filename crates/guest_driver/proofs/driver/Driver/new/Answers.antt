@@ -6,7 +6,7 @@ use Rattle.guest_driver.proofs.driver.Driver.new.Goals as goal
 
 pub invariant_of-result : goal.invariant_of-result
 invariant_of-result c =
-    let size = c.args.guest.now.queue in
+    let size = c.args.config.now.queue in
     let owners : c.in_ok-owners.owners.items ≡ replicate size None = search rules in
     let flights : c.in_ok-flights.flights.items ≡ replicate size no_flight = search rules in
     record {
