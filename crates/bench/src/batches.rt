@@ -69,12 +69,11 @@ pub fn time_kind<S: Subject>(
     let keyed = take_batch(rt, subject, Kind::Key, 0, 1);
     let warmed = take_batches(rt, subject, kind, 0, warm);
     let times = take_batches(rt, subject, kind, warm, count);
-    let before = keyed.own.and(warmed.own).and(Ok(()));
     Row {
         name: names.0,
         base: names.1,
         count: count.saturating_mul(BATCH),
-        times: after(before, times),
+        times: after(keyed.own.and(warmed.own).and(Ok(())), times),
         sum: subject.sum(),
     }
 }

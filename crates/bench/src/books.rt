@@ -3,9 +3,9 @@
 //! the memory of the answers. Neither waits for the lock nor what the flusher does under it is here.
 use crate::batches::{Subject, time_kind};
 use crate::clock::{Extent, NO_MEMORY, Row, Stop, Times, Took, now, plus, print_row, since};
-use crate::images::{new_image, opened_board};
+use crate::images::{LIFE, new_image};
 use crate::requests::{KEY, Kind, mixed};
-use board::Parts;
+use board::{Board, Parts};
 use chains::Range;
 use disk::Disk;
 use flusher::Made;
@@ -13,7 +13,7 @@ use guest_driver::BoardSetup;
 use hmac256::MacKey;
 use mmio_transport::{Job, RingKind};
 use rpmb_book::{Checked, Due, Rooms};
-use rpmb_frame::{BoardConfig, Limits};
+use rpmb_frame::{GuestConfig, Limits};
 use std::alloc::Global;
 use std::collections::VecDeque;
 
@@ -106,11 +106,11 @@ struct Books<D: Desk> {
     sum: u32,
 }
 
-fn books_of<D: Desk>(alloc: Global, desk: D, limits: Limits) -> Books<D> {
+fn books_of<D: Desk>(alloc: Global, desk: D) -> Books<D> {
     Books {
         alloc,
         desk,
-        limits,
+        limits: Limits::of(&GuestConfig::of_capacity(1)),
         key: MacKey::new(&KEY),
         jobs: VecDeque::new(alloc),
         spare: Vec::new(alloc),
@@ -238,35 +238,22 @@ impl<D: Desk> Subject for Books<D> {
     }
 }
 
-/// The limits of the guest.
-fn limits_of(config: &BoardConfig) -> Result<Limits, Stop> {
-    match config.guests().first() {
-        Some(guest) => Ok(Limits::of(guest)),
-        None => Err("no guest"),
-    }
-}
-
-/// A book and its store over an image, of which nothing was asked yet, and the guest's limits.
-fn parts_on<D: Disk + Drop>(
-    alloc: Global,
-    disk: D,
-    config: &BoardConfig,
-) -> Result<(Parts<D>, Limits), Stop> {
-    let limits = limits_of(config)?;
-    match opened_board(alloc, disk, config) {
-        Ok(board) => Ok((board.into_parts(), limits)),
-        Err(stop) => Err(stop),
+/// A book and its store over an image, of which nothing was asked yet.
+fn parts_on<D: Disk + Drop>(alloc: Global, disk: D, setup: &BoardSetup) -> Result<Parts<D>, Stop> {
+    match Board::open(alloc, disk, LIFE, setup.board()) {
+        Ok(board) => Ok(board.into_parts()),
+        Err(_) => Err("no image of the board"),
     }
 }
 
 fn time_desk<D: Desk>(
     rt: &HostRuntime,
     extent: Extent,
-    (desk, limits): (D, Limits),
+    desk: D,
     name: &'static str,
     kind: Kind,
 ) -> Row {
-    let mut books = books_of(rt.alloc(), desk, limits);
+    let mut books = books_of(rt.alloc(), desk);
     let names = (name, "what is done outside of the lock");
     time_kind(rt, &mut books, kind, extent, names)
 }
@@ -278,24 +265,22 @@ fn time_parts<D: Disk + Drop>(
     name: &'static str,
     kind: Kind,
 ) -> Result<Row, Stop> {
-    match parts_on(rt.alloc(), disk, setup.board()) {
+    match parts_on(rt.alloc(), disk, &setup) {
         Ok(parts) => Ok(time_desk(rt, extent, parts, name, kind)),
         Err(stop) => Err(stop),
     }
 }
 
-fn time_locked(
-    rt: &HostRuntime,
-    extent: Extent,
-    name: &'static str,
-    kind: Kind,
-) -> Result<(), Stop> {
+/// What a row is called, and of which kind the requests are.
+type Asks = (&'static str, Kind);
+
+fn time_locked(rt: &HostRuntime, extent: Extent, (name, kind): Asks) -> Result<(), Stop> {
     let image = new_image(rt.alloc(), RingKind::Split)?;
     let row = time_parts(rt, extent, image, name, kind)?;
     print_row(rt, extent, &row)
 }
 
-static ROWS: [(&str, Kind); 3] = [
+static ROWS: [Asks; 3] = [
     ("lock, counter", Kind::Counter),
     ("lock, write of 1 block", Kind::Write),
     ("lock, read of 16 blocks", Kind::Read),
@@ -304,8 +289,8 @@ static ROWS: [(&str, Kind); 3] = [
 /// Times how long the lock is held for a request of each kind.
 pub fn time_lock(rt: &HostRuntime, extent: Extent) -> Result<(), Stop> {
     let mut all = Ok(());
-    for (name, kind) in &ROWS {
-        all = all.and(time_locked(rt, extent, name, *kind));
+    for asks in &ROWS {
+        all = all.and(time_locked(rt, extent, *asks));
     }
     all
 }

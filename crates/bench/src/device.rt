@@ -1,9 +1,10 @@
 //! Whole requests of one guest, each from its offer to its reap, beside the MACs that they need.
 use crate::batches::{Subject, time_kind};
 use crate::clock::{Extent, NO_MEMORY, Row, Stop, Times, now, print_row, since};
-use crate::images::{new_image, opened_board};
+use crate::images::{LIFE, new_image};
 use crate::macs::time_keyed;
 use crate::requests::{Kind, mixed};
+use board::Board;
 use disk::Disk;
 use guest_driver::BoardSetup;
 use host::{Answer, Host};
@@ -30,25 +31,18 @@ impl<D: Disk + Drop> Chains for Host<D> {
     }
 }
 
-/// Takes a chain to its end; what was mixed before, and its answer, which is let go at once.
-fn take_one<C: Chains>(host: &mut C, kind: Kind, request: &[u8], before: u32) -> Result<u32, Stop> {
-    match host.end_of(request, kind) {
-        Ok(Answer::Used(reply)) => mixed(kind, &reply, before),
-        Ok(_) => Err("a chain without a reply"),
-        Err(stop) => Err(stop),
-    }
-}
-
-/// Takes the chains of a batch to their ends, one after another.
+/// Takes the chains of a batch to their ends, one after another; each answer is let go at once.
 fn take_each<C: Chains>(host: &mut C, kind: Kind, batch: &[u8], before: u32) -> Result<u32, Stop> {
-    let mut all = before;
+    let mut all = Ok(before);
     for request in batch.chunks(kind.length()) {
-        match take_one(host, kind, request, all) {
-            Ok(mixed) => all = mixed,
-            Err(stop) => return Err(stop),
-        }
+        all = match (all, host.end_of(request, kind)) {
+            (Ok(before), Ok(Answer::Used(reply))) => mixed(kind, &reply, before),
+            (Ok(_), Ok(_stuck)) => Err("a chain without a reply"),
+            (Ok(_), Err(stop)) => Err(stop),
+            (Err(stop), _answer) => Err(stop),
+        };
     }
-    Ok(all)
+    all
 }
 
 /// A host of one guest, and the requests that it is to be asked.
@@ -83,12 +77,9 @@ impl<C: Chains> Subject for Asked<C> {
 
 /// A host over an image, with its device in service.
 fn host_on<D: Disk + Drop>(alloc: Global, disk: D, setup: &BoardSetup) -> Result<Host<D>, Stop> {
-    match opened_board(alloc, disk, setup.board()) {
-        Ok(board) => match Host::new(alloc, board, setup) {
-            Ok(host) => Ok(host),
-            Err(_) => Err(NO_MEMORY),
-        },
-        Err(stop) => Err(stop),
+    match Board::open(alloc, disk, LIFE, setup.board()) {
+        Ok(board) => Host::new(alloc, board, setup).ok().ok_or(NO_MEMORY),
+        Err(_) => Err("no image of the board"),
     }
 }
 
@@ -121,20 +112,16 @@ fn time_host<D: Disk + Drop>(
     }
 }
 
-fn time_ring(
-    rt: &HostRuntime,
-    extent: Extent,
-    name: &'static str,
-    ring: RingKind,
-    kind: Kind,
-) -> Result<(), Stop> {
+/// What a row is called, through a queue of which kind, and of which kind the requests are.
+type Asks = (&'static str, RingKind, Kind);
+
+fn time_ring(rt: &HostRuntime, extent: Extent, (name, ring, kind): Asks) -> Result<(), Stop> {
     let image = new_image(rt.alloc(), ring)?;
     let row = time_host(rt, extent, image, name, kind)?;
     print_row(rt, extent, &row)
 }
 
-/// What is timed: through a queue of which kind, and of which kind the requests are.
-static ROWS: [(&str, RingKind, Kind); 6] = [
+static ROWS: [Asks; 6] = [
     ("split, counter", RingKind::Split, Kind::Counter),
     ("split, write of 1 block", RingKind::Split, Kind::Write),
     ("split, read of 16 blocks", RingKind::Split, Kind::Read),
@@ -146,8 +133,8 @@ static ROWS: [(&str, RingKind, Kind); 6] = [
 /// Times so many whole requests of each kind, through a split queue and a packed one.
 pub fn time_device(rt: &HostRuntime, extent: Extent) -> Result<(), Stop> {
     let mut all = Ok(());
-    for (name, ring, kind) in &ROWS {
-        all = all.and(time_ring(rt, extent, name, *ring, *kind));
+    for asks in &ROWS {
+        all = all.and(time_ring(rt, extent, *asks));
     }
     all
 }

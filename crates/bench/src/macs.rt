@@ -30,12 +30,15 @@ pub fn time_keyed(rt: &HostRuntime, count: u32, frames: usize) -> (Took, u8) {
 pub fn time_macs(rt: &HostRuntime, extent: Extent) -> Result<(), Stop> {
     let (own, sum) = time_keyed(rt, extent.count, 1);
     let (base, _) = time_keyed(rt, extent.count.div_ceil(16), 16);
-    let row = Row {
-        name: "MAC of one frame",
-        base: "a frame of a MAC of 16",
-        count: extent.count,
-        times: Times { own, base },
-        sum: u32::from(sum),
-    };
-    print_row(rt, extent, &row)
+    print_row(
+        rt,
+        extent,
+        &Row {
+            name: "MAC of one frame",
+            base: "a frame of a MAC of 16",
+            count: extent.count,
+            times: Times { own, base },
+            sum: u32::from(sum),
+        },
+    )
 }

@@ -15,7 +15,7 @@ mod macs;
 mod requests;
 
 use books::time_lock;
-use clock::{Extent, Stop};
+use clock::{Extent, NO_MEMORY, Stop};
 use device::time_device;
 use macs::time_macs;
 use std::env;
@@ -40,9 +40,9 @@ fn print_few(rt: &HostRuntime) -> Result<(), Stop> {
         warm: 0,
         is_timed: false,
     };
-    let macs = time_macs(rt, few);
-    let device = time_device(rt, few);
-    macs.and(device).and(time_lock(rt, few))
+    time_macs(rt, few)
+        .and(time_device(rt, few))
+        .and(time_lock(rt, few))
 }
 
 /// Does what the words ask for: the program's name, WORK and COUNT.
@@ -62,17 +62,13 @@ fn perform(rt: &HostRuntime, words: &[String]) -> Result<(), Stop> {
 
 fn words(rt: &HostRuntime) -> Result<Vec<String>, Stop> {
     match env::args(rt) {
-        Ok(words) => words.collect(rt.alloc()).ok().ok_or("no words"),
+        Ok(words) => words.collect(rt.alloc()).ok().ok_or(NO_MEMORY),
         Err(_) => Err("no words"),
     }
 }
 
 fn main(rt: HostRuntime) -> ExitCode {
-    let performed = match words(&rt) {
-        Ok(words) => perform(&rt, &words),
-        Err(stop) => Err(stop),
-    };
-    match performed {
+    match words(&rt).and_then(|words| perform(&rt, &words)) {
         Ok(()) => ExitCode::SUCCESS,
         Err(stop) => {
             let _ = eprintln!(rt; "bench: {stop}");

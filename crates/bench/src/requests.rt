@@ -32,14 +32,19 @@ impl Kind {
         }
     }
 
-    /// Where a good reply to it ends: the result 0x0000 and its type.
-    pub fn end(self) -> [u8; 4] {
+    /// The type of its request (VIRTIO 1.2, 5.12.6.1).
+    fn request_type(self) -> u16 {
         match self {
-            Kind::Key => [0, 0, 1, 0],
-            Kind::Counter => [0, 0, 2, 0],
-            Kind::Write => [0, 0, 3, 0],
-            Kind::Read => [0, 0, 4, 0],
+            Kind::Key => PROGRAM_KEY,
+            Kind::Counter => GET_WRITE_COUNTER,
+            Kind::Write => DATA_WRITE,
+            Kind::Read => DATA_READ,
         }
+    }
+
+    /// Where a good reply to it ends: the result 0x0000 and its type.
+    fn end(self) -> [u8; 4] {
+        [0, 0, self.request_type().to_le_bytes()[0], 0]
     }
 
     /// How many MACs it needs, and of how many frames each: a write is tested and its reply sealed.
@@ -54,12 +59,18 @@ impl Kind {
 
     /// Its frame, under a write counter.
     fn frame(self, counter: u32) -> [u8; 512] {
-        let frame = Frame::zeros().with_block_count(1);
+        let frame = Frame::zeros()
+            .with_block_count(1)
+            .with_req_resp(self.request_type());
         match self {
-            Kind::Key => frame.with_key_mac(&KEY).with_req_resp(PROGRAM_KEY),
-            Kind::Counter => frame.with_req_resp(GET_WRITE_COUNTER),
-            Kind::Read => frame.with_block_count(16).with_req_resp(DATA_READ),
-            Kind::Write => write_frame(counter),
+            Kind::Key => frame.with_key_mac(&KEY),
+            Kind::Counter => frame,
+            Kind::Read => frame.with_block_count(16),
+            Kind::Write => sealed(
+                frame
+                    .with_block_data(&[0x5a; 256])
+                    .with_write_counter(counter),
+            ),
         }
         .to_bytes()
     }
@@ -84,15 +95,9 @@ impl Kind {
     }
 }
 
-/// The write of block 0 under a counter, with its MAC.
-fn write_frame(counter: u32) -> Frame {
-    let frame = Frame::zeros()
-        .with_block_data(&[0x5a; 256])
-        .with_write_counter(counter)
-        .with_block_count(1)
-        .with_req_resp(DATA_WRITE);
-    let mac = mac_of(&KEY, &[frame.to_bytes()]);
-    frame.with_key_mac(&mac)
+/// A frame with its MAC.
+fn sealed(frame: Frame) -> Frame {
+    frame.with_key_mac(&mac_of(&KEY, &[frame.to_bytes()]))
 }
 
 /// What was mixed before, and the first byte of the MAC of a good reply to a request of this kind.
