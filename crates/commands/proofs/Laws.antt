@@ -13,6 +13,7 @@ use Rattle.commands.proofs.Common.{Begun, IsTold, MayEnd, Moment, StopsAt, Trail
 use Rattle.commands.proofs.Common.{StoresNothing, first_told, Fault}
 use Rattle.std.specs.Prelude.{take}
 use Rattle.std.proofs.lemmas.List.{take_all}
+use Rattle.guest_driver.specs.Config.{SetupState}
 use Rattle.disk.specs.Disk.{MayLeave}
 use Rattle.flusher.specs.Round.{FrontStays}
 use Rattle.intent_slots.specs.Recovered as recovered
@@ -62,18 +63,21 @@ next_cases board n (line ∷ rest) P file memory full range f ends =
 
 -- the disk is as faithful as it was
 faithful_at : {D : Type 0} {shows : D → DiskState} {makes : D → DiskCall → D → Type 0}
-    {board : List GuestConfig} {partitions : List Partition} {start : Option (List ℕ)}
+    {setup : SetupState} {partitions : List Partition} {start : Option (List ℕ)}
     {first : Moment D} {done : List Said} {m : Moment D}
-    → Trail shows makes board partitions start first done m → (shows (disk_at m)).faithful
+    → Trail shows makes setup partitions start first done m → (shows (disk_at m)).faithful
     ≡ (shows (disk_at first)).faithful
 faithful_at (Begun is) = refl
 faithful_at (Went done line m n trail did inside accepts leads is) = leads.faithful
     ∙ faithful_at trail
 
 module _ {D : Type 0} (shows : D → DiskState) (makes : D → DiskCall → D → Type 0)
-    (board : List GuestConfig) (all : List Said) (old : D) (start : Option (List ℕ))
+    (setup : SetupState) (all : List Said) (old : D) (start : Option (List ℕ))
     (ended : Result (Unit {0}) Fault) (new : D) (now : Option (List ℕ))
-    (w : WholeRun shows makes board all old start ended new now) where
+    (w : WholeRun shows makes setup all old start ended new now) where
+  abbrev board : List GuestConfig
+  board = setup.board
+
   abbrev s : DiskState
   s = shows old
 
@@ -262,55 +266,56 @@ module _ {D : Type 0} (shows : D → DiskState) (makes : D → DiskCall → D �
 -- 2. Whether the image was opened or not
 
 module _ {D : Type 0} (shows : D → DiskState) (makes : D → DiskCall → D → Type 0)
-    (board : List GuestConfig) (script : List ℕ) (all : List Said) (old : D)
+    (setup : SetupState) (script : List ℕ) (all : List Said) (old : D)
     (start : Option (List ℕ)) (new : D) (now : Option (List ℕ)) (same : (ls : List Said)
-    → Says board script ls → ls ≡ all) where
+    → Says setup.board script ls → ls ≡ all) where
   -- an image that wasn't opened
   refused : (P : Fault → Type 0) → (f : Fault)
-      → (it : IsRefused shows makes board old start (Err f) new now) → P it.fault → P f
+      → (it : IsRefused shows makes setup.board old start (Err f) new now) → P it.fault → P f
   refused P f it holds = subst P (let back : it.fault ≡ f = (let is = it.is in cc) in back) holds
 
-  run_prints : (f : Fault) → AnyMoment shows makes board all old start (Err f) new now
-      → RunPrints board script (shows old) (shows new) f start now
-  run_prints f (inl it) = refused (λ e. RunPrints board script (shows old) (shows new) e start now)
-      f it
-      (opening_cases (capacities_of board) (shows old) (shows new) (λ e.
-      RunPrints board script (shows old) (shows new) e start now) (inl it.silent) (λ rose.
+  run_prints : (f : Fault) → AnyMoment shows makes setup all old start (Err f) new now
+      → RunPrints setup.board script (shows old) (shows new) f start now
+  run_prints f (inl it) = refused
+      (λ e. RunPrints setup.board script (shows old) (shows new) e start now) f it
+      (opening_cases (capacities_of setup.board) (shows old) (shows new) (λ e.
+      RunPrints setup.board script (shows old) (shows new) e start now) (inl it.silent) (λ rose.
       inl it.silent) (λ is. it.silent) (λ is. it.silent) it.fault it.reason)
-  run_prints f (inr w) = whole_prints shows makes board all old start (Err f) new now w script same
+  run_prints f (inr w) = whole_prints shows makes setup all old start (Err f) new now w script same
       f refl
 
-  run_ends : IsReadable board script → (f : Fault)
-      → AnyMoment shows makes board all old start (Err f) new now
-      → Ends (running script) board (shows old) (shows new) f
-  run_ends good f (inl it) = refused (λ e. Ends (running script) board (shows old) (shows new) e) f
-      it
-      (opening_cases (capacities_of board) (shows old) (shows new) (λ e.
-      Ends (running script) board (shows old) (shows new) e) tt (λ rose. (good, rose)) (λ is.
+  run_ends : IsReadable setup.board script → (f : Fault)
+      → AnyMoment shows makes setup all old start (Err f) new now
+      → Ends (running script) setup.board (shows old) (shows new) f
+  run_ends good f (inl it) = refused
+      (λ e. Ends (running script) setup.board (shows old) (shows new) e) f it
+      (opening_cases (capacities_of setup.board) (shows old) (shows new) (λ e.
+      Ends (running script) setup.board (shows old) (shows new) e) tt (λ rose. (good, rose)) (λ is.
       (good, is)) (λ is. (good, is)) it.fault it.reason)
-  run_ends good f (inr w) = whole_ends shows makes board all old start (Err f) new now w script good
+  run_ends good f (inr w) = whole_ends shows makes setup all old start (Err f) new now w script good
       same f refl
 
-  run_ran : AnyMoment shows makes board all old start (Ok tt) new now → StoresNothing all
-      → Ran board (shows old) (shows new) all start now
+  run_ran : AnyMoment shows makes setup all old start (Ok tt) new now → StoresNothing all
+      → Ran setup.board (shows old) (shows new) all start now
   run_ran (inl it) clean = absurd (let is = it.is in cc)
-  run_ran (inr w) clean = whole_ran shows makes board all old start (Ok tt) new now w refl clean
+  run_ran (inr w) clean = whole_ran shows makes setup all old start (Ok tt) new now w refl clean
 
   -- by how it ended
-  pub all_prints : (r : Result (Unit {0}) Fault) → AnyMoment shows makes board all old start r new
-      now → IfErr r (λ f. RunPrints board script (shows old) (shows new) f start now)
+  pub all_prints : (r : Result (Unit {0}) Fault) → AnyMoment shows makes setup all old start r new
+      now → IfErr r (λ f. RunPrints setup.board script (shows old) (shows new) f start now)
   all_prints (Ok x) m = tt
   all_prints (Err f) m = run_prints f m
 
-  pub all_ends : IsReadable board script → (r : Result (Unit {0}) Fault)
-      → AnyMoment shows makes board all old start r new now
-      → IfErr r (Ends (running script) board (shows old) (shows new))
+  pub all_ends : IsReadable setup.board script → (r : Result (Unit {0}) Fault)
+      → AnyMoment shows makes setup all old start r new now
+      → IfErr r (Ends (running script) setup.board (shows old) (shows new))
   all_ends good (Ok x) m = tt
   all_ends good (Err f) m = run_ends good f m
 
-  pub all_ran : (r : Result (Unit {0}) Fault) → AnyMoment shows makes board all old start r new now
-      → OnOk r ((ls : List Said) → Says board script ls → StoresNothing ls
-      → Ran board (shows old) (shows new) ls start now)
-  all_ran (Ok x) m = λ ls says clean. subst (λ x. Ran board (shows old) (shows new) x start now)
+  pub all_ran : (r : Result (Unit {0}) Fault) → AnyMoment shows makes setup all old start r new now
+      → OnOk r ((ls : List Said) → Says setup.board script ls → StoresNothing ls
+      → Ran setup.board (shows old) (shows new) ls start now)
+  all_ran (Ok x) m = λ ls says clean.
+      subst (λ x. Ran setup.board (shows old) (shows new) x start now)
       (sym (same ls says)) (run_ran m (subst StoresNothing (same ls says) clean))
   all_ran (Err f) m = tt

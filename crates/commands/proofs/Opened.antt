@@ -8,7 +8,7 @@ use Rattle.commands.proofs.Common.{OpenFault, GuestCore, GuestState, StaysLinked
 use Rattle.commands.proofs.Common.{BoardState, guests, HostState, Moves, runner_of, OpeningEnds}
 use Rattle.commands.proofs.Common.{fault_of_image, AreOf, IsOpened, MovesTo, Fault}
 use Rattle.disk.specs.declared.disk.DiskFault.{DiskFault}
-use Rattle.guest_driver.specs.declared.config.DriverConfig.{DriverConfig}
+use Rattle.guest_driver.specs.Config.{SetupState}
 use Rattle.intent_slots.specs.Recovered as recovered
 use Rattle.recovery.specs.Opening.{IsImage}
 use Rattle.recovery.specs.declared.fault.OpenFault.TheVariants as image
@@ -61,43 +61,42 @@ image_of {D = D} shows board disk b life begins stand whole_image = record {
     many = begins.begun.all_partitions ∙ length-map board (λ g. g.capacity)
 
 pub opened_host : {D : Type 0} (shows : D → DiskState) (makes : D → DiskCall → D → Type 0)
-    (board : List GuestConfig) (disk : D) (b : BoardState D) (h : HostState D) (life : ℕ)
-    → Begins shows life board b
-    → ((shows disk).faithful ≡ true → Stands board (shows disk).seen b)
-    → ((shows disk).faithful ≡ true → IsImage (capacities_of board) (shows disk).len
+    (setup : SetupState) (disk : D) (b : BoardState D) (h : HostState D) (life : ℕ)
+    → Begins shows life setup.board b
+    → ((shows disk).faithful ≡ true → Stands setup.board (shows disk).seen b)
+    → ((shows disk).faithful ≡ true → IsImage (capacities_of setup.board) (shows disk).len
     (shows disk).seen)
     → Within shows makes (Untouched (shows disk)) disk b.store.disk → (shows b.store.disk).failures
-    ≡ (shows disk).failures → (drivers : List DriverConfig)
-    → IsFirstHost (record { board = board; drivers = drivers }) b h
+    ≡ (shows disk).failures → IsFirstHost setup b h
     → ((bases : ℕ → Partition) (accepted : ℕ → List Request)
-    → StaysLinked shows board bases accepted b → StaysLinked shows board bases accepted h.board)
-    → IsOpened shows makes board disk h
+    → StaysLinked shows setup.board bases accepted b
+    → StaysLinked shows setup.board bases accepted h.board)
+    → IsOpened shows makes setup disk h
 unfolding capacities_of
-opened_host {D = D} shows makes board disk b h life begins stand whole_image untouched unfailed
-    drivers first links = record {
+opened_host {D = D} shows makes setup disk b h life begins stand whole_image untouched unfailed
+    first links = record {
       partitions = begins.partitions;
-      of_image = image_of shows board disk b life begins stand whole_image;
+      of_image = image_of shows setup.board disk b life begins stand whole_image;
       cores = cores;
       ready = record { cores = cores; ready = first.ready };
       answered = ap (λ r. r.answered) first.runner ∙ ap (λ v. (runner_of v).answered) begins.is
-          ∙ (uncounted board begins.partitions).0;
+          ∙ (uncounted setup.board begins.partitions).0;
       linked = links (bases_of begins.partitions) (λ g. [])
           (record { parts = _; linked = begins.linked });
       whole = ap (λ s. s.broken) first.store ∙ ap (λ v. v.store.broken) begins.is ∙ begins.whole;
-      untouched = subst (λ s. Within shows makes (Untouched (shows disk)) disk s.disk) (sym first.store)
-          untouched;
+      untouched = subst (λ s. Within shows makes (Untouched (shows disk)) disk s.disk)
+          (sym first.store) untouched;
       unfailed = ap (λ s. (shows s.disk).failures) first.store ∙ unfailed;
       host = record {
-        drivers = drivers;
         fit = first.fit;
         own = first.own;
         clear = first.clear;
       };
     }
   where
-    cores : (runner_of h.board).cores ≡ first_cores board begins.partitions
+    cores : (runner_of h.board).cores ≡ first_cores setup.board begins.partitions
     cores = ap (λ r. r.cores) first.runner ∙ ap (λ v. (runner_of v).cores) begins.is
-        ∙ fresh_cores board begins.partitions
+        ∙ fresh_cores setup.board begins.partitions
 
 -- why it isn't opened
 pub opening_ends : (capacities : List ℕ) (old new : DiskState) (f : OpenFault)
@@ -130,11 +129,11 @@ moves_to shows makes h ended r disk f same only =
 
 -- a store that broke since the image was opened
 pub risen : {D : Type 0} (shows : D → DiskState) (makes : D → DiskCall → D → Type 0)
-    (board : List GuestConfig) (disk : D) (h0 h : HostState D) → IsOpened shows makes board disk h0
+    (setup : SetupState) (disk : D) (h0 h : HostState D) → IsOpened shows makes setup disk h0
     → Moves shows makes h0.board h.board
     → h.board.store.broken ≡ true
     → HasRisen (shows disk).failures (shows h.board.store.disk).failures
-risen shows makes board disk h0 h opened moves broke =
+risen shows makes setup disk h0 h opened moves broke =
     subst (λ n. HasRisen n (shows h.board.store.disk).failures) opened.unfailed
     (by (moves.cause broke))
   where

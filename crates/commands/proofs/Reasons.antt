@@ -12,7 +12,7 @@ use Rattle.std.specs.Prelude.{nat_lt}
 use Rattle.std.proofs.lemmas.Bool.Decides.{nat_tests}
 use Rattle.mmio_transport.specs.declared.ring_kind.RingKind.{RingKind}
 use Rattle.mmio_transport.specs.declared.ring_kind.RingKind.TheVariants.{Split, Packed}
-use Rattle.guest_driver.specs.Config.{IsDriver, SetupState, config_of}
+use Rattle.guest_driver.specs.Config.{IsDriver, SetupState}
 use Rattle.guest_driver.specs.Driver.{DriverState, HasTooFew, IsFull, full_by, offer_of, owner}
 use Rattle.guest_driver.specs.Kinds.{needed}
 use Rattle.guest_driver.specs.Offered.{Offer}
@@ -55,32 +55,33 @@ all_free size mark some =
     omega (arith, none)
 
 -- a driver of which nothing is in flight has room for a chain
-enough : (driver : DriverState) (readable : List ℕ) (writable : ℕ) → 2 ≤ driver.size
-    → length driver.owners ≡ driver.size → IsAtRest driver → IsFull driver readable writable → ⊥
-enough driver readable writable many sized rest full = by driver.form.kind rest.level full
+enough : (driver : DriverState) (readable : List ℕ) (writable : ℕ) → 2 ≤ driver.config.queue
+    → length driver.owners ≡ driver.config.queue → IsAtRest driver
+    → IsFull driver readable writable → ⊥
+enough driver readable writable many sized rest full = by driver.config.ring rest.level full
   where
     by : (kind : RingKind) → IsLevel kind driver.offered driver.used
-        → full_by kind driver.form.indirect driver readable writable → ⊥
+        → full_by kind driver.config.indirect driver readable writable → ⊥
     by Split level few = enough_free driver.owners _ (omega (arith, many, sized)) rest.free few
     by Packed level (inl few) =
-        let most = two_at_most driver.form.indirect (offer_of readable writable 0 0) in
-        let all : free_places driver.size driver.offered driver.used ≡ driver.size =
-        ap (λ x. free_places driver.size x driver.used) level
-        ∙ all_free driver.size driver.used (omega (arith, many)) in
+        let most = two_at_most driver.config.indirect (offer_of readable writable 0 0) in
+        let all : free_places driver.config.queue driver.offered driver.used ≡ driver.config.queue =
+        ap (λ x. free_places driver.config.queue x driver.used) level
+        ∙ all_free driver.config.queue driver.used (omega (arith, many)) in
         omega (arith, most, all, few, many)
     by Packed level (inr few) = enough_free driver.owners false (omega (arith, many, sized))
         rest.free few
 
 -- a driver has room for its areas
-roomy : (memory bytes : ℕ) (driver : DriverState) → IsDriver memory (config_of driver)
-    → bytes ≡ memory → bytes < needed driver.form.kind driver.size → ⊥
+roomy : (memory bytes : ℕ) (driver : DriverState) → IsDriver memory driver.config
+    → bytes ≡ memory → bytes < needed driver.config.ring driver.config.queue → ⊥
 roomy memory bytes driver fits whole small = (let holds = fits.holds_layout in
     omega (arith, holds, whole, small))
 
 -- a chain of one of the board's guests, which wasn't stuck
 chain_reason : (setup : SetupState) (f : HostFault) (g g' : GuestView) (r r' : RunnerView)
     (guest : ℕ) (readable : List ℕ) (writable : ℕ)
-    → IsDriver g.device.config.memory (config_of g.driver) → IsGuestOf setup guest g
+    → IsDriver g.device.config.memory g.driver.config → IsGuestOf setup guest g
     → IsAtRest g.driver → ChainReason g r readable writable (Err f) g' r'
     → LineEnds setup.board r'.answered (fault_of f) (chain guest readable writable)
 chain_reason setup host.OutOfRange g g' r r' guest readable writable fits own rest reason =
@@ -94,21 +95,16 @@ chain_reason setup host.NoRoom g g' r r' guest readable writable fits own rest r
 chain_reason setup host.Foreign g g' r r' guest readable writable fits own rest reason =
     absurd reason
 
--- the board of a host's guests, and their drivers
-abbrev setup_of : (board : List GuestConfig) (h : HostView) → IsHostOf board h → SetupState
-setup_of board h is = record { board = board; drivers = is.drivers }
-
-pub chain_stops : (was now : Bool) (board : List GuestConfig) (h h' : HostView) (guest : ℕ)
+pub chain_stops : (was now : Bool) (setup : SetupState) (h h' : HostView) (guest : ℕ)
     (readable : List ℕ) (writable : ℕ) (f : HostFault)
     → HostExplains h guest readable writable (Err f) h'
-    → HostChains was now h guest readable writable (Err f) h' → IsHostOf board h
-    → IsWithin (length board) (chain guest readable writable)
-    → LineEnds board h'.runner.answered (fault_of f) (chain guest readable writable)
-chain_stops was now board h h' guest readable writable f explains chains is within =
+    → HostChains was now h guest readable writable (Err f) h' → IsHostOf setup h
+    → IsWithin (length setup.board) (chain guest readable writable)
+    → LineEnds setup.board h'.runner.answered (fault_of f) (chain guest readable writable)
+chain_stops was now setup h h' guest readable writable f explains chains is within =
     let inside = within.0 in
     let count = is.own.count in
     let g = there_is h.guests guest (omega (arith, inside, count)) in
-    let setup = setup_of board h is in
     let e = explains setup is.fit is.own in
     let own = is.own.each guest g.0 g.1 in
     let c = subst (λ o. ChainsAt was now o h guest readable writable (Err f) h') g.1 chains in
@@ -118,16 +114,16 @@ chain_stops was now board h h' guest readable writable f explains chains is with
     c.after c.stuck
   where
     by : (g : GuestView) (after : Option GuestView) (why : Option Stuck) → g.stuck ≡ why
-        → IsGuestOf (setup_of board h is) guest g → (g.stuck ≡ None → IsAtRest g.driver)
+        → IsGuestOf setup guest g → (g.stuck ≡ None → IsAtRest g.driver)
         → ReasonAt (Some g) after h.runner readable writable (Err f) h'.runner → (x : GuestView)
         → StuckBy was now g.stuck g (Err f) x h h'
-        → LineEnds board h'.runner.answered (fault_of f) (chain guest readable writable)
+        → LineEnds setup.board h'.runner.answered (fault_of f) (chain guest readable writable)
     by g after (Some why) same own clear reason x stuck =
         (let told = (subst (λ s. StuckBy was now s g (Err f) x h h') same stuck).0 in absurd (cc))
     by g None None same own clear reason x stuck = absurd reason
     by g (Some g') None same own clear reason x stuck =
-        chain_reason (setup_of board h is) f g g' h.runner h'.runner guest readable writable
-        (is.fit.each guest g.device.config (config_of g.driver) own.config own.driver) own
+        chain_reason setup f g g' h.runner h'.runner guest readable writable
+        (is.fit.each guest g.device.config g.driver.config own.config own.driver) own
         (clear same) (reason.0 same)
 
 -- a store of one of the board's guests
@@ -147,24 +143,24 @@ store_reason setup n f g g' guest at bytes own stores =
         by true is = grind (arith, nat_tests, is)
         by false is = absurd (within (grind (arith, nat_tests, is)))
 
-pub store_stops : (board : List GuestConfig) (h h' : HostView) (guest at : ℕ) (bytes : List ℕ)
-    (f : HostFault) → HostStores h guest at bytes (Err f) h' → IsHostOf board h
-    → IsWithin (length board) (store guest at bytes)
-    → LineEnds board h'.runner.answered (fault_of f) (store guest at bytes)
-store_stops board h h' guest at bytes f stores is within =
+pub store_stops : (setup : SetupState) (h h' : HostView) (guest at : ℕ) (bytes : List ℕ)
+    (f : HostFault) → HostStores h guest at bytes (Err f) h' → IsHostOf setup h
+    → IsWithin (length setup.board) (store guest at bytes)
+    → LineEnds setup.board h'.runner.answered (fault_of f) (store guest at bytes)
+store_stops setup h h' guest at bytes f stores is within =
     let inside = within.0 in
     let count = is.own.count in
     let g = there_is h.guests guest (omega (arith, inside, count)) in
     let s = subst (λ o. StoresAt o h guest at bytes (Err f) h') g.1 stores in
-    store_reason (setup_of board h is) h'.runner.answered f g.0 s.0 guest at bytes
+    store_reason setup h'.runner.answered f g.0 s.0 guest at bytes
     (is.own.each guest g.0 g.1) s.1
 
 -- one that went well lies in that memory
-pub store_inside : (board : List GuestConfig) (h h' : HostView) (guest at : ℕ) (bytes : List ℕ)
-    → HostStores h guest at bytes (Ok tt) h' → IsHostOf board h
-    → IsWithin (length board) (store guest at bytes)
-    → StoresInside board (store guest at bytes)
-store_inside board h h' guest at bytes stores is within =
+pub store_inside : (setup : SetupState) (h h' : HostView) (guest at : ℕ) (bytes : List ℕ)
+    → HostStores h guest at bytes (Ok tt) h' → IsHostOf setup h
+    → IsWithin (length setup.board) (store guest at bytes)
+    → StoresInside setup.board (store guest at bytes)
+store_inside setup h h' guest at bytes stores is within =
     let inside = within.0 in
     let count = is.own.count in
     let g = there_is h.guests guest (omega (arith, inside, count)) in
@@ -173,33 +169,32 @@ store_inside board h h' guest at bytes stores is within =
     subst (λ o. IsInside o at (length bytes)) (sym own.config)
     (subst (λ n. at + length bytes ≤ n) own.memory s.1.0)
 
-pub reset_stops : (board : List GuestConfig) (h h' : HostView) (guest : ℕ) (f : HostFault)
-    → HostResetsGuest h guest (Err f) h' → IsHostOf board h → IsWithin (length board) (reset guest)
-    → LineEnds board h'.runner.answered (fault_of f) (reset guest)
-reset_stops board h h' guest f resets is within =
+pub reset_stops : (setup : SetupState) (h h' : HostView) (guest : ℕ) (f : HostFault)
+    → HostResetsGuest h guest (Err f) h' → IsHostOf setup h
+    → IsWithin (length setup.board) (reset guest)
+    → LineEnds setup.board h'.runner.answered (fault_of f) (reset guest)
+reset_stops setup h h' guest f resets is within =
     let count = is.own.count in
     let g = there_is h.guests guest (omega (arith, within, count)) in
     let r = subst (λ o. ResetsAt o h guest (Err f) h') g.1 resets in
     absurd (cc)
 
 -- the guests stay the board's
-pub chain_hosts : (board : List GuestConfig) (h h' : HostView) (guest : ℕ) (readable : List ℕ)
+pub chain_hosts : (setup : SetupState) (h h' : HostView) (guest : ℕ) (readable : List ℕ)
     (writable : ℕ) (answer : Answer) → HostExplains h guest readable writable (Ok answer) h'
-    → IsHostOf board h → IsHostOf board h'
-chain_hosts board h h' guest readable writable answer explains is =
-    let e = explains (setup_of board h is) is.fit is.own in
+    → IsHostOf setup h → IsHostOf setup h'
+chain_hosts setup h h' guest readable writable answer explains is =
+    let e = explains setup is.fit is.own in
     record {
-      drivers = is.drivers;
       fit = is.fit;
       own = e.own;
       clear = e.clear answer refl is.clear;
     }
 
-pub kept_hosts : (board : List GuestConfig) (h h' : HostView) → HostKeeps h h' → IsHostOf board h
-    → IsHostOf board h'
-kept_hosts board h h' keeps is =
-    (let k = keeps (setup_of board h is) is.own in record {
-      drivers = is.drivers;
+pub kept_hosts : (setup : SetupState) (h h' : HostView) → HostKeeps h h' → IsHostOf setup h
+    → IsHostOf setup h'
+kept_hosts setup h h' keeps is =
+    (let k = keeps setup is.own in record {
       fit = is.fit;
       own = k.0;
       clear = k.1 is.clear;
@@ -224,54 +219,56 @@ writing_ends board n fault.BadBoard guest readable writable of = absurd of
 -- 2. Of a line's call
 
 -- the guests stay the board's
-pub line_hosts : {D : Type 0} (board : List GuestConfig) (line : Said) (h h' : HostState D)
-    (start now : Option (List ℕ)) → LineDone line h start now h' → IsHostOf board (seen h)
-    → IsHostOf board (seen h')
-line_hosts board nothing h h' start now did is = subst (λ x. IsHostOf board (seen x)) (sym did.0) is
-line_hosts board (chain guest readable writable) h h' start now did is =
-    chain_hosts board (seen h) (seen h') guest readable writable did.answer did.call.reason is
-line_hosts board (store guest at bytes) h h' start now did is =
-    kept_hosts board (seen h) (seen h') did.0.guests is
-line_hosts board (reset guest) h h' start now did is =
-    kept_hosts board (seen h) (seen h') did.0.guests is
+pub line_hosts : {D : Type 0} (setup : SetupState) (line : Said) (h h' : HostState D)
+    (start now : Option (List ℕ)) → LineDone line h start now h' → IsHostOf setup (seen h)
+    → IsHostOf setup (seen h')
+line_hosts setup nothing h h' start now did is = subst (λ x. IsHostOf setup (seen x)) (sym did.0) is
+line_hosts setup (chain guest readable writable) h h' start now did is =
+    chain_hosts setup (seen h) (seen h') guest readable writable did.answer did.call.reason is
+line_hosts setup (store guest at bytes) h h' start now did is =
+    kept_hosts setup (seen h) (seen h') did.0.guests is
+line_hosts setup (reset guest) h h' start now did is =
+    kept_hosts setup (seen h) (seen h') did.0.guests is
 
 -- a store of a line that is done lies in its guest's memory
-pub line_inside : {D : Type 0} (board : List GuestConfig) (line : Said) (h h' : HostState D)
-    (start now : Option (List ℕ)) → LineDone line h start now h' → IsHostOf board (seen h)
-    → IsWithin (length board) line → StoresInside board line
-line_inside board nothing h h' start now did is within = tt
-line_inside board (chain guest readable writable) h h' start now did is within = tt
-line_inside board (store guest at bytes) h h' start now did is within =
-    store_inside board (seen h) (seen h') guest at bytes did.0.own is within
-line_inside board (reset guest) h h' start now did is within = tt
+pub line_inside : {D : Type 0} (setup : SetupState) (line : Said) (h h' : HostState D)
+    (start now : Option (List ℕ)) → LineDone line h start now h' → IsHostOf setup (seen h)
+    → IsWithin (length setup.board) line → StoresInside setup.board line
+line_inside setup nothing h h' start now did is within = tt
+line_inside setup (chain guest readable writable) h h' start now did is within = tt
+line_inside setup (store guest at bytes) h h' start now did is within =
+    store_inside setup (seen h) (seen h') guest at bytes did.0.own is within
+line_inside setup (reset guest) h h' start now did is within = tt
 
 -- the fault of a line that ended the run
-chain_ended : {D : Type 0} (board : List GuestConfig) (h h' : HostState D) (guest : ℕ)
+chain_ended : {D : Type 0} (setup : SetupState) (h h' : HostState D) (guest : ℕ)
     (readable : List ℕ) (writable : ℕ) (told : Result Answer HostFault) (f : Fault)
     → ChainFault told f
     → HostExplains (seen h) guest readable writable told (seen h')
     → HostChains (is_broken h.board) (is_broken h'.board) (seen h) guest readable writable told
     (seen h')
-    → IsHostOf board (seen h) → IsWithin (length board) (chain guest readable writable)
-    → LineEnds board (seen h').runner.answered f (chain guest readable writable)
-chain_ended board h h' guest readable writable (Ok answer) f cause explains chains is within =
-    writing_ends board (seen h').runner.answered f guest readable writable cause
-chain_ended board h h' guest readable writable (Err e) f cause explains chains is within =
-    subst (λ x. LineEnds board (seen h').runner.answered x (chain guest readable writable))
+    → IsHostOf setup (seen h) → IsWithin (length setup.board) (chain guest readable writable)
+    → LineEnds setup.board (seen h').runner.answered f (chain guest readable writable)
+chain_ended setup h h' guest readable writable (Ok answer) f cause explains chains is within =
+    writing_ends setup.board (seen h').runner.answered f guest readable writable cause
+chain_ended setup h h' guest readable writable (Err e) f cause explains chains is within =
+    subst (λ x. LineEnds setup.board (seen h').runner.answered x (chain guest readable writable))
     (sym cause)
-    (chain_stops (is_broken h.board) (is_broken h'.board) board (seen h) (seen h') guest readable
+    (chain_stops (is_broken h.board) (is_broken h'.board) setup (seen h) (seen h') guest readable
     writable e explains chains is within)
 
-pub line_ends : {D : Type 0} (board : List GuestConfig) (line : Said) (h h' : HostState D)
-    (f : Fault) → LineFails line h f h' → IsHostOf board (seen h) → IsWithin (length board) line
-    → LineEnds board (seen h').runner.answered f line
-line_ends board nothing h h' f fails is within = absurd fails
-line_ends board (chain guest readable writable) h h' f fails is within =
-    chain_ended board h h' guest readable writable fails.told f fails.cause fails.call.reason
+pub line_ends : {D : Type 0} (setup : SetupState) (line : Said) (h h' : HostState D)
+    (f : Fault) → LineFails line h f h' → IsHostOf setup (seen h)
+    → IsWithin (length setup.board) line
+    → LineEnds setup.board (seen h').runner.answered f line
+line_ends setup nothing h h' f fails is within = absurd fails
+line_ends setup (chain guest readable writable) h h' f fails is within =
+    chain_ended setup h h' guest readable writable fails.told f fails.cause fails.call.reason
     fails.call.own is within
-line_ends board (store guest at bytes) h h' f fails is within =
-    subst (λ x. LineEnds board (seen h').runner.answered x (store guest at bytes)) (sym fails.2)
-    (store_stops board (seen h) (seen h') guest at bytes fails.0 fails.1.own is within)
-line_ends board (reset guest) h h' f fails is within =
-    subst (λ x. LineEnds board (seen h').runner.answered x (reset guest)) (sym fails.2)
-    (reset_stops board (seen h) (seen h') guest fails.0 fails.1.own is within)
+line_ends setup (store guest at bytes) h h' f fails is within =
+    subst (λ x. LineEnds setup.board (seen h').runner.answered x (store guest at bytes))
+    (sym fails.2)
+    (store_stops setup (seen h) (seen h') guest at bytes fails.0 fails.1.own is within)
+line_ends setup (reset guest) h h' f fails is within =
+    subst (λ x. LineEnds setup.board (seen h').runner.answered x (reset guest)) (sym fails.2)
+    (reset_stops setup (seen h) (seen h') guest fails.0 fails.1.own is within)

@@ -15,6 +15,7 @@ use Rattle.commands.proofs.Common.{told_when, IsOpened, AnyMoment, Begun, IsTold
 use Rattle.commands.proofs.Common.{MovesTo, Starts, StopsAt, Trail, Walked, Went, moment_of}
 use Rattle.commands.proofs.Common.{AreWithin, IsAt, StoresNothing, Told, first_told, Fault}
 use Rattle.std.proofs.KnownBytes.{Keeps-trans}
+use Rattle.guest_driver.specs.Config.{SetupState}
 use Rattle.disk.proofs.Ways.{within_end}
 use Rattle.recovery.proofs.Ways.{untouched_here}
 use Rattle.flusher.specs.Marks.{marks_of}
@@ -94,21 +95,21 @@ after_at shows board bases accepted steps t h linked is g p at =
 
 -- the end of a trail
 pub done_at : {D : Type 0} {shows : D → DiskState} {makes : D → DiskCall → D → Type 0}
-    {board : List GuestConfig} {partitions : List Partition} {start : Option (List ℕ)}
+    {setup : SetupState} {partitions : List Partition} {start : Option (List ℕ)}
     {first : Moment D} {done : List Said} {m : Moment D}
-    → Trail shows makes board partitions start first done m
-    → IsDone shows board partitions start done m
+    → Trail shows makes setup partitions start first done m
+    → IsDone shows setup partitions start done m
 done_at (Begun is) = is
 done_at (Went done line m n trail did inside accepts leads is) = is
 
 -- Before the first line.
 pub walk_begins : {D : Type 0} (shows : D → DiskState) (makes : D → DiskCall → D → Type 0)
-    (board : List GuestConfig) (partitions : List Partition) (h : HostState D) (all : List Said)
+    (setup : SetupState) (partitions : List Partition) (h : HostState D) (all : List Said)
     (start : Option (List ℕ))
-    → Starts shows board partitions h → Walked shows makes board partitions all start
+    → Starts shows setup partitions h → Walked shows makes setup partitions all start
     (moment_of (λ g. []) h start) all h start
-walk_begins shows makes board partitions h all start starts =
-    let first = first_told board partitions in
+walk_begins shows makes setup partitions h all start starts =
+    let first = first_told setup.board partitions in
     let at : IsAt 0 (told_when None first []) (seen h) =
     subst (λ x. IsAt 0 x (seen h)) (told_none first) starts.ready in
     record {
@@ -119,7 +120,7 @@ walk_begins shows makes board partitions h all start starts =
         tied = starts.linked;
         calm = starts.calm;
         guests = starts.host;
-        kept = all_kept shows board (bases_of partitions) (λ g. []) h.board starts.calm
+        kept = all_kept shows setup.board (bases_of partitions) (λ g. []) h.board starts.calm
             starts.linked;
         told = λ clean. record {
           failed = None;
@@ -128,8 +129,8 @@ walk_begins shows makes board partitions h all start starts =
           at = at;
           few = omega arith;
           answered = starts.answered;
-          after = after_at shows board (bases_of partitions) (λ g. []) 0 (told_when None first []) h
-              starts.linked at;
+          after = after_at shows setup.board (bases_of partitions) (λ g. []) 0
+              (told_when None first []) h starts.linked at;
         };
       });
     }
@@ -172,18 +173,18 @@ told_on shows makes board partitions start done line a b h h' now next told calm
 
 -- A line more.
 pub walk_on : {D : Type 0} (shows : D → DiskState) (makes : D → DiskCall → D → Type 0)
-    (board : List GuestConfig) (partitions : List Partition) (all : List Said)
+    (setup : SetupState) (partitions : List Partition) (all : List Said)
     (start : Option (List ℕ)) (first : Moment D) (line : Said) (rest : List Said)
     (h h' : HostState D) (now next : Option (List ℕ)) → length all + 2 < last_count
-    → Walked shows makes board partitions all start first (line ∷ rest) h now
-    → LineRuns shows makes line h now (Ok tt) next h' → IsWithin (length board) line
-    → Walked shows makes board partitions all start first rest h' next
-walk_on shows makes board partitions all start first line rest h h' now next few walked runs within
+    → Walked shows makes setup partitions all start first (line ∷ rest) h now
+    → LineRuns shows makes line h now (Ok tt) next h' → IsWithin (length setup.board) line
+    → Walked shows makes setup partitions all start first rest h' next
+walk_on shows makes setup partitions all start first line rest h h' now next few walked runs within
     =
     let is = done_at walked.trail in
     let did : LineDone line h now next h' = runs.did in
-    let l = leads_by shows makes board partitions walked.accepted h h' now next is.tied runs.moves
-    in
+    let l = leads_by shows makes setup.board partitions walked.accepted h h' now next is.tied
+    runs.moves in
     let calm = runs.calm is.calm in
     let count : length all ≡ length walked.done + suc (length rest) = ap length walked.parts
     ∙ length-append walked.done (line ∷ rest) in
@@ -192,14 +193,14 @@ walk_on shows makes board partitions all start first line rest h h' now next few
       done = walked.done ++ line ∷ [];
       parts = walked.parts ∙ sym (append_assoc walked.done (line ∷ []) rest);
       trail = Went walked.done line (moment_of walked.accepted h now) (moment_of l.0 h' next)
-          walked.trail did (line_inside board line h h' now next did is.guests within)
-          (accepts_own shows board (bases_of partitions) walked.accepted l.0 h h' now next line
-          is.tied l.2 l.1.more did) l.1 (record {
+          walked.trail did (line_inside setup line h h' now next did is.guests within)
+          (accepts_own shows setup.board (bases_of partitions) walked.accepted l.0 h h' now next
+          line is.tied l.2 l.1.more did) l.1 (record {
             tied = l.2;
             calm = calm;
-            guests = line_hosts board line h h' now next did is.guests;
-            kept = all_kept shows board (bases_of partitions) l.0 h'.board calm l.2;
-            told = λ clean. told_on shows makes board partitions start walked.done line
+            guests = line_hosts setup line h h' now next did is.guests;
+            kept = all_kept shows setup.board (bases_of partitions) l.0 h'.board calm l.2;
+            told = λ clean. told_on shows makes setup.board partitions start walked.done line
                 walked.accepted l.0 h h' now next
                 (is.told (clean_before walked.done (line ∷ []) clean)) is.calm calm l.2 runs
                 (clean_next walked.done [] line clean) (omega (arith, few, count));
@@ -225,9 +226,12 @@ may_end {D = D} board f (line ∷ rest) last after now next stops kept more =
     on k = Keeps-trans last.printed now next k more
 
 module _ {D : Type 0} (shows : D → DiskState) (makes : D → DiskCall → D → Type 0)
-    (board : List GuestConfig) (disk : D) (h : HostState D) (read : List Line)
-    (start : Option (List ℕ)) (opened : IsOpened shows makes board disk h)
-    (within : AreWithin (length board) read) where
+    (setup : SetupState) (disk : D) (h : HostState D) (read : List Line)
+    (start : Option (List ℕ)) (opened : IsOpened shows makes setup disk h)
+    (within : AreWithin (length setup.board) read) where
+  abbrev board : List GuestConfig
+  board = setup.board
+
   abbrev every : List Said
   every = map said read
 
@@ -237,13 +241,13 @@ module _ {D : Type 0} (shows : D → DiskState) (makes : D → DiskCall → D �
   -- the lines are done, or one came to a fault, and calls came after them
   whole_run : (ended : Result (Unit {0}) Fault) (rest : List Said) (b c : HostState D)
       (printed now : Option (List ℕ)) (new : D)
-      → (walked : Walked shows makes board opened.partitions every start first_of rest b printed)
+      → (walked : Walked shows makes setup opened.partitions every start first_of rest b printed)
       → Moves shows makes b.board c.board → Moves shows makes h.board c.board
       → new ≡ c.board.store.disk
       → ((n : ℕ → List Request) → StaysLinked shows board (bases_of opened.partitions) n c.board
       → GoOn walked.accepted n → MayEnd board ended rest (moment_of walked.accepted b printed)
       (moment_of n c now) now)
-      → AnyMoment shows makes board every disk start ended new now
+      → AnyMoment shows makes setup every disk start ended new now
   whole_run ended rest b c printed now new walked moves total is ends =
       let l = leads_by shows makes board opened.partitions walked.accepted b c printed now
       (done_at walked.trail).tied moves in
@@ -272,11 +276,11 @@ module _ {D : Type 0} (shows : D → DiskState) (makes : D → DiskCall → D �
             opened.untouched).faithful (header_opened shows makes disk h.board.store.disk
             opened.untouched) total.header);
         cause = λ broke. subst (λ d. HasRisen (shows disk).failures (shows d).failures) (sym is)
-            (risen shows makes board disk h c opened total broke);
+            (risen shows makes setup disk h c opened total broke);
         ends = ends l.0 l.2 l.1.more;
       })
 
-  starts : IsCalm shows h.board → Starts shows board opened.partitions h
+  starts : IsCalm shows h.board → Starts shows setup opened.partitions h
   starts calm = record {
     calm = calm;
     whole = opened.whole;
@@ -292,7 +296,7 @@ module _ {D : Type 0} (shows : D → DiskState) (makes : D → DiskCall → D �
       (new : D) → IsCalm shows h.board → Moves shows makes h.board h'.board
       → LinesCome shows makes read h start (Ok tt) h' now
       → Keeps now next → MovesTo shows makes h'.board r new
-      → AnyMoment shows makes board every disk start r new next
+      → AnyMoment shows makes setup every disk start r new next
   run_finished h' r now next new calm total come kept to =
       whole_run r [] h' after now next new walked to.moves
       (moves_twice shows makes h.board h'.board to.last total to.moves) to.disk
@@ -301,8 +305,8 @@ module _ {D : Type 0} (shows : D → DiskState) (makes : D → DiskCall → D �
       after : HostState D
       after = record { board = to.last; fronts = h'.fronts }
 
-      walked : Walked shows makes board opened.partitions every start first_of [] h' now
-      walked = come board opened.partitions (starts calm) within
+      walked : Walked shows makes setup opened.partitions every start first_of [] h' now
+      walked = come setup opened.partitions (starts calm) within
 
       none : (n : ℕ → List Request) → StaysLinked shows board (bases_of opened.partitions) n to.last
           → GoOn walked.accepted n → AcceptNoMore board walked.accepted n
@@ -326,7 +330,7 @@ module _ {D : Type 0} (shows : D → DiskState) (makes : D → DiskCall → D �
 
   -- the line that ended the run, and what it had accepted
   stops_at : (h' : HostState D) (f : Fault) (now next : Option (List ℕ))
-      → (s : Stopped shows makes board opened.partitions every start first_of f h' now)
+      → (s : Stopped shows makes setup opened.partitions every start first_of f h' now)
       → (n : ℕ → List Request)
       → StaysLinked shows board (bases_of opened.partitions) n h'.board → GoOn s.walked.accepted n
       → StopsAt board f s.rest (moment_of s.walked.accepted s.before s.printed)
@@ -343,9 +347,9 @@ module _ {D : Type 0} (shows : D → DiskState) (makes : D → DiskCall → D �
       → IsCalm shows h.board → Moves shows makes h.board h'.board
       → LinesCome shows makes read h start (Err f) h' now
       → Keeps now next → new ≡ h'.board.store.disk
-      → AnyMoment shows makes board every disk start (Err f) new next
+      → AnyMoment shows makes setup every disk start (Err f) new next
   run_stopped h' f now next new calm total come kept is =
-      let s = come board opened.partitions (starts calm) within in
+      let s = come setup opened.partitions (starts calm) within in
       whole_run (Err f) s.rest s.before h' s.printed next new s.walked s.moves total is
       (λ n linked more. may_end board f s.rest (moment_of s.walked.accepted s.before s.printed)
       (moment_of n h' next) now next (stops_at h' f now next s n linked more) s.silent kept)
@@ -355,9 +359,9 @@ module _ {D : Type 0} (shows : D → DiskState) (makes : D → DiskCall → D �
       (new : D) → IsCalm shows h.board → Moves shows makes h.board h'.board
       → LinesCome shows makes read h start r h' now
       → new ≡ h'.board.store.disk
-      → AnyMoment shows makes board every disk start (Err fault.FileFault) new next
+      → AnyMoment shows makes setup every disk start (Err fault.FileFault) new next
   run_unwritten h' (Ok x) now next new calm total come is =
-      let walked = come board opened.partitions (starts calm) within in
+      let walked = come setup opened.partitions (starts calm) within in
       whole_run (Err fault.FileFault) [] h' h' now next new walked (moves_none shows makes h'.board)
       total is
       (λ n linked more. inl (
@@ -367,24 +371,24 @@ module _ {D : Type 0} (shows : D → DiskState) (makes : D → DiskCall → D �
             refl,
       ))
   run_unwritten h' (Err f) now next new calm total come is =
-      let s = come board opened.partitions (starts calm) within in
+      let s = come setup opened.partitions (starts calm) within in
       whole_run (Err fault.FileFault) s.rest s.before h' s.printed next new s.walked s.moves total
       is (λ n linked more. inr (f, stops_at h' f now next s n linked more))
 
 -- an image that wasn't opened
 pub run_refused : {D : Type 0} (shows : D → DiskState) (makes : D → DiskCall → D → Type 0)
-    (board : List GuestConfig) (all : List Said) (disk new : D) (f : Fault)
+    (setup : SetupState) (all : List Said) (disk new : D) (f : Fault)
     (start : Option (List ℕ))
-    → OpeningEnds (capacities_of board) (shows disk) (shows new) f
+    → OpeningEnds (capacities_of setup.board) (shows disk) (shows new) f
     → Within shows makes (Untouched (shows disk)) disk new
-    → AnyMoment shows makes board all disk start (Err f) new start
-run_refused shows makes board all disk new f start of moments =
+    → AnyMoment shows makes setup all disk start (Err f) new start
+run_refused shows makes setup all disk new f start of moments =
     inl (record { fault = f; is = refl; reason = of; moments = moments; silent = Keeps-refl start })
 
 -- lines for which memory was refused
 pub run_unread : {D : Type 0} (shows : D → DiskState) (makes : D → DiskCall → D → Type 0)
-    (board : List GuestConfig) (all : List Said) (disk : D) (start : Option (List ℕ))
-    → AnyMoment shows makes board all disk start (Err fault.NoMemory) disk start
-run_unread shows makes board all disk start =
-    run_refused shows makes board all disk disk fault.NoMemory start tt
+    (setup : SetupState) (all : List Said) (disk : D) (start : Option (List ℕ))
+    → AnyMoment shows makes setup all disk start (Err fault.NoMemory) disk start
+run_unread shows makes setup all disk start =
+    run_refused shows makes setup all disk disk fault.NoMemory start tt
     (Still disk (untouched_here (shows disk)))

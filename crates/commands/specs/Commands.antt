@@ -6,6 +6,7 @@ use Rattle.std.specs.Io.KnownBytes.{Appends, Keeps}
 use Rattle.command_line.specs.declared.command.Command.{Command}
 use Rattle.command_line.specs.declared.command.Command.TheVariants as command
 use Rattle.rpmb_frame.specs.declared.config.GuestConfig.{GuestConfig}
+use Rattle.guest_driver.specs.Config.{SetupState}
 use Rattle.disk.specs.Disk.{DiskCall, DiskState, Within}
 use Rattle.intent_slots.specs.Layout.{capacities_of, image_length}
 use Rattle.recovery.specs.Format.{ClearsFirst, IsFormatted}
@@ -60,15 +61,15 @@ pub record UpgradeDoes {D : Type 0} (shows : D → DiskState) (makes : D → Dis
   pub silent : IfErr ended (λ f. KeepsUnless f start now)
 
 pub record RunDoes {D : Type 0} (shows : D → DiskState) (makes : D → DiskCall → D → Type 0)
-    (board : List GuestConfig) (script : List ℕ) (old : D) (start : Option (List ℕ))
+    (setup : SetupState) (script : List ℕ) (old : D) (start : Option (List ℕ))
     (ended : Result (Unit {0}) Fault) (new : D) (now : Option (List ℕ)) : Type 0 where
-  pub ran : OnOk ended ((lines : List Said) → Says board script lines → StoresNothing lines
-      → Ran board (shows old) (shows new) lines start now)
-  pub bad : (n : ℕ) → IsBadAt board script n → IsErr ended × Keeps start now × (new ≡ old)
-  pub ends : IfErr ended (Ends (running script) board (shows old) (shows new))
-  pub moments : (lines : List Said) → Says board script lines
-      → AnyMoment shows makes board lines old start ended new now
-  pub stopped : IfErr ended (λ f. RunPrints board script (shows old) (shows new) f start now)
+  pub ran : OnOk ended ((lines : List Said) → Says setup.board script lines → StoresNothing lines
+      → Ran setup.board (shows old) (shows new) lines start now)
+  pub bad : (n : ℕ) → IsBadAt setup.board script n → IsErr ended × Keeps start now × (new ≡ old)
+  pub ends : IfErr ended (Ends (running script) setup.board (shows old) (shows new))
+  pub moments : (lines : List Said) → Says setup.board script lines
+      → AnyMoment shows makes setup lines old start ended new now
+  pub stopped : IfErr ended (λ f. RunPrints setup.board script (shows old) (shows new) f start now)
 
 -- the disk may be lost
 pub record ServeDoes {D : Type 0} (shows : D → DiskState) (makes : D → DiskCall → D → Type 0)
@@ -94,18 +95,18 @@ GivesBack P (Some d) = P d
 
 -- What a command has done, on this board, with the text of this script.
 abbrev pub Does : {D : Type 0} → (D → DiskState) → (D → DiskCall → D → Type 0) → Command
-    → List GuestConfig → List ℕ
+    → SetupState → List ℕ
     → D → Option (List ℕ) → Result (Unit {0}) Fault → Option D → Option (List ℕ) → Type 0
-Does shows makes (command.Format b only_new version) board script old start ended back now =
-    GivesBack (λ new. FormatDoes shows makes board old start ended new now) back
-Does shows makes (command.Show b as_json) board script old start ended back now =
-    GivesBack (λ new. ShowDoes shows makes as_json board old start ended new now) back
-Does shows makes (command.Upgrade b) board script old start ended back now =
-    GivesBack (λ new. UpgradeDoes shows makes board old start ended new now) back
-Does shows makes (command.Run b s) board script old start ended back now =
-    GivesBack (λ new. RunDoes shows makes board script old start ended new now) back
-Does shows makes (command.Serve b s) board script old start ended back now =
-    ServeDoes shows makes board script old start ended back now
+Does shows makes (command.Format b only_new version) setup script old start ended back now =
+    GivesBack (λ new. FormatDoes shows makes setup.board old start ended new now) back
+Does shows makes (command.Show b as_json) setup script old start ended back now =
+    GivesBack (λ new. ShowDoes shows makes as_json setup.board old start ended new now) back
+Does shows makes (command.Upgrade b) setup script old start ended back now =
+    GivesBack (λ new. UpgradeDoes shows makes setup.board old start ended new now) back
+Does shows makes (command.Run b s) setup script old start ended back now =
+    GivesBack (λ new. RunDoes shows makes setup script old start ended new now) back
+Does shows makes (command.Serve b s) setup script old start ended back now =
+    ServeDoes shows makes setup.board script old start ended back now
 
 -- What standard error has taken of an end: nothing, or the line of the fault, as far as that went
 -- out.
@@ -120,8 +121,8 @@ status_after (Err f) = 1
 
 -- A command was performed, and its end told.
 pub record Performs {D : Type 0} (shows : D → DiskState) (makes : D → DiskCall → D → Type 0)
-    (c : Command) (board : List GuestConfig) (script : List ℕ) (old : D) (start : Option (List ℕ))
+    (c : Command) (setup : SetupState) (script : List ℕ) (old : D) (start : Option (List ℕ))
     (ended : Result (Unit {0}) Fault) (back : Option D)
     (now err_start err_now : Option (List ℕ)) : Type 0 where
-  pub does : Does shows makes c board script old start ended back now
+  pub does : Does shows makes c setup script old start ended back now
   pub told : TellsEnd ended err_start err_now

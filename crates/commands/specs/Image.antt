@@ -3,6 +3,7 @@ use Rattle.std.specs.Prelude.{◌≡◌, ℕ, List, [], Option, length, true, fa
 use Rattle.std.specs.Io.KnownBytes.{Appends}
 use Rattle.rpmb_frame.specs.Partition.{Partition}
 use Rattle.rpmb_frame.specs.declared.config.GuestConfig.{GuestConfig}
+use Rattle.guest_driver.specs.Config.{SetupState}
 use Rattle.disk.specs.Content.{Content}
 use Rattle.disk.specs.Disk.{DiskCall, DiskState, MayLeave, Within}
 use Rattle.intent_slots.specs.Layout.{capacities_of}
@@ -53,14 +54,14 @@ pub record LeavesRun (board : List GuestConfig) (old new : DiskState)
 
 -- The guests of an image, each in its first session, as a run begins with them.
 pub record IsOpened {D : Type 0} (shows : D → DiskState) (makes : D → DiskCall → D → Type 0)
-    (board : List GuestConfig) (disk : D) (h : HostState D) : Type 0 where
+    (setup : SetupState) (disk : D) (h : HostState D) : Type 0 where
   pub partitions : List Partition
-  pub of_image : AreOf board (shows disk) partitions
-  pub cores : (runner_of h.board).cores ≡ first_cores board partitions
-  pub ready : IsAt 0 (first_told board partitions) (seen h)
+  pub of_image : AreOf setup.board (shows disk) partitions
+  pub cores : (runner_of h.board).cores ≡ first_cores setup.board partitions
+  pub ready : IsAt 0 (first_told setup.board partitions) (seen h)
   pub answered : (runner_of h.board).answered ≡ 0
-  pub linked : StaysLinked shows board (bases_of partitions) (λ g. []) h.board
+  pub linked : StaysLinked shows setup.board (bases_of partitions) (λ g. []) h.board
   pub whole : h.board.store.broken ≡ false
   pub untouched : Within shows makes (Untouched (shows disk)) disk h.board.store.disk
   pub unfailed : (shows h.board.store.disk).failures ≡ (shows disk).failures
-  pub host : IsHostOf board (seen h)
+  pub host : IsHostOf setup (seen h)

@@ -7,6 +7,7 @@ use Rattle.std.specs.Io.KnownBytes.{Appends, Keeps}
 use Rattle.rpmb_frame.specs.Partition.{Partition, sequence}
 use Rattle.rpmb_frame.specs.Request.{Request}
 use Rattle.rpmb_frame.specs.declared.config.GuestConfig.{GuestConfig}
+use Rattle.guest_driver.specs.Config.{SetupState}
 use Rattle.rpmb_core.specs.Requests.{partition_after_all}
 use Rattle.disk.specs.Disk.{DiskCall, DiskState, HasRisen, Within}
 use Rattle.intent_slots.specs.Layout.{capacities_of}
@@ -97,29 +98,30 @@ pub record IsTold {D : Type 0} (board : List GuestConfig) (partitions : List Par
 -- request after another, and no guest waits for a reply; while no call of the disk has failed, no
 -- stop loses anything of it; and where no line so far stored into guest memory, all is as the
 -- script says.
-pub record IsDone {D : Type 0} (shows : D → DiskState) (board : List GuestConfig)
+pub record IsDone {D : Type 0} (shows : D → DiskState) (setup : SetupState)
     (partitions : List Partition) (start : Option (List ℕ)) (done : List Said) (m : Moment D)
     : Type 0 where
-  pub tied : StaysLinked shows board (bases_of partitions) m.accepted m.host.board
+  pub tied : StaysLinked shows setup.board (bases_of partitions) m.accepted m.host.board
   pub calm : IsCalm shows m.host.board
-  pub guests : IsHostOf board (seen m.host)
-  pub kept : broken_at m ≡ false → (g : ℕ) → g < length board
+  pub guests : IsHostOf setup (seen m.host)
+  pub kept : broken_at m ≡ false → (g : ℕ) → g < length setup.board
       → sequence (bases_of partitions g) + length (m.accepted g) ≤ kept_at m g
-  pub told : StoresNothing done → IsTold board partitions start done m
+  pub told : StoresNothing done → IsTold setup.board partitions start done m
 
 -- The lines of a script that are done, one after another: each made its call of the host, with that
 -- call's calls of the disk, and then it printed. No store of theirs lay outside its guest's memory.
 pub data Trail {D : Type 0} (shows : D → DiskState) (makes : D → DiskCall → D → Type 0)
-    (board : List GuestConfig) (partitions : List Partition) (start : Option (List ℕ))
+    (setup : SetupState) (partitions : List Partition) (start : Option (List ℕ))
     (first : Moment D) : List Said → Moment D → Type 0 where
-  Begun : IsDone shows board partitions start [] first
-      → Trail shows makes board partitions start first [] first
+  Begun : IsDone shows setup partitions start [] first
+      → Trail shows makes setup partitions start first [] first
   Went : (done : List Said) (line : Said) (m n : Moment D)
-      → Trail shows makes board partitions start first done m
-      → LineDone line m.host m.printed n.printed n.host → StoresInside board line
-      → AcceptsOwn board line m.accepted n.accepted → Leads shows makes board partitions m n
-      → IsDone shows board partitions start (done ++ line ∷ []) n
-      → Trail shows makes board partitions start first (done ++ line ∷ []) n
+      → Trail shows makes setup partitions start first done m
+      → LineDone line m.host m.printed n.printed n.host → StoresInside setup.board line
+      → AcceptsOwn setup.board line m.accepted n.accepted
+      → Leads shows makes setup.board partitions m n
+      → IsDone shows setup partitions start (done ++ line ∷ []) n
+      → Trail shows makes setup partitions start first (done ++ line ∷ []) n
 
 -- of which guest the next of the lines left had requests accepted
 abbrev pub NextAccepts : List GuestConfig → List Said → (ℕ → List Request) → (ℕ → List Request)
@@ -154,31 +156,31 @@ MayEnd board (Err f) rest last after now = StopsAt board f rest last after × Ke
 -- The moments of a run over an image: those of its opening, which leaves all as it was; those of
 -- its lines; and those after the last line that was done. At each of them the header is as it was.
 pub record WholeRun {D : Type 0} (shows : D → DiskState) (makes : D → DiskCall → D → Type 0)
-    (board : List GuestConfig) (all : List Said) (old : D) (start : Option (List ℕ))
+    (setup : SetupState) (all : List Said) (old : D) (start : Option (List ℕ))
     (ended : Result (Unit {0}) Fault) (new : D) (now : Option (List ℕ)) : Type 0 where
   pub partitions : List Partition
-  pub of_image : AreOf board (shows old) partitions
+  pub of_image : AreOf setup.board (shows old) partitions
   pub first : Moment D
   pub opening : Within shows makes (Untouched (shows old)) old (disk_at first)
   pub none : (g : ℕ) → first.accepted g ≡ []
   pub whole : broken_at first ≡ false
   pub silent : first.printed ≡ start
   -- each guest is ready, on its partition of the image
-  pub ready : IsAt 0 (first_told board partitions) (seen first.host)
+  pub ready : IsAt 0 (first_told setup.board partitions) (seen first.host)
   pub answered : (seen first.host).runner.answered ≡ 0
   pub done : List Said
   pub rest : List Said
   pub parts : all ≡ done ++ rest
   pub last : Moment D
-  pub trail : Trail shows makes board partitions start first done last
+  pub trail : Trail shows makes setup partitions start first done last
   pub after : Moment D
-  pub leads : Leads shows makes board partitions last after
+  pub leads : Leads shows makes setup.board partitions last after
   -- what is accepted by then is what the book has, too
-  pub tied : StaysLinked shows board (bases_of partitions) after.accepted after.host.board
+  pub tied : StaysLinked shows setup.board (bases_of partitions) after.accepted after.host.board
   pub disk : new ≡ disk_at after
   pub header : KeepsHeader shows makes old new
   pub cause : broken_at after ≡ true → HasRisen (shows old).failures (shows new).failures
-  pub ends : MayEnd board ended rest last after now
+  pub ends : MayEnd setup.board ended rest last after now
 
 -- what an image that isn't opened leaves
 pub record IsRefused {D : Type 0} (shows : D → DiskState) (makes : D → DiskCall → D → Type 0)
@@ -193,11 +195,11 @@ pub record IsRefused {D : Type 0} (shows : D → DiskState) (makes : D → DiskC
 
 -- Each moment of a run, of lines that were read.
 abbrev pub AnyMoment : {D : Type 0} → (D → DiskState) → (D → DiskCall → D → Type 0)
-    → List GuestConfig → List Said → D → Option (List ℕ) → Result (Unit {0}) Fault → D
+    → SetupState → List Said → D → Option (List ℕ) → Result (Unit {0}) Fault → D
     → Option (List ℕ) → Type 0
-AnyMoment shows makes board all old start ended new now =
-    IsRefused shows makes board old start ended new now
-    ⊎ WholeRun shows makes board all old start ended new now
+AnyMoment shows makes setup all old start ended new now =
+    IsRefused shows makes setup.board old start ended new now
+    ⊎ WholeRun shows makes setup all old start ended new now
 
 -- 1. Within a run
 
@@ -206,55 +208,55 @@ abbrev pub moment_of : {D : Type 0} → (ℕ → List Request) → HostState D �
 moment_of accepted h printed = record { accepted = accepted; host = h; printed = printed }
 
 -- a host of an image that was just opened, before the first line
-pub record Starts {D : Type 0} (shows : D → DiskState) (board : List GuestConfig)
+pub record Starts {D : Type 0} (shows : D → DiskState) (setup : SetupState)
     (partitions : List Partition) (h : HostState D) : Type 0 where
   pub calm : IsCalm shows h.board
   pub whole : h.board.store.broken ≡ false
-  pub linked : StaysLinked shows board (bases_of partitions) (λ g. []) h.board
-  pub ready : IsAt 0 (first_told board partitions) (seen h)
+  pub linked : StaysLinked shows setup.board (bases_of partitions) (λ g. []) h.board
+  pub ready : IsAt 0 (first_told setup.board partitions) (seen h)
   pub answered : (seen h).runner.answered ≡ 0
-  pub host : IsHostOf board (seen h)
+  pub host : IsHostOf setup (seen h)
 
 -- the lines before the rest are done
 pub record Walked {D : Type 0} (shows : D → DiskState) (makes : D → DiskCall → D → Type 0)
-    (board : List GuestConfig) (partitions : List Partition) (all : List Said)
+    (setup : SetupState) (partitions : List Partition) (all : List Said)
     (start : Option (List ℕ)) (first : Moment D)
     (rest : List Said) (h : HostState D) (now : Option (List ℕ)) : Type 0 where
   pub accepted : ℕ → List Request
   pub done : List Said
   pub parts : all ≡ done ++ rest
-  pub trail : Trail shows makes board partitions start first done (moment_of accepted h now)
+  pub trail : Trail shows makes setup partitions start first done (moment_of accepted h now)
 
 -- the lines before the rest are done, and the calls after them came to this host
 pub record Stopped {D : Type 0} (shows : D → DiskState) (makes : D → DiskCall → D → Type 0)
-    (board : List GuestConfig) (partitions : List Partition) (all : List Said)
+    (setup : SetupState) (partitions : List Partition) (all : List Said)
     (start : Option (List ℕ)) (first : Moment D)
     (f : Fault) (h : HostState D) (now : Option (List ℕ)) : Type 0 where
   pub rest : List Said
   pub before : HostState D
   pub printed : Option (List ℕ)
-  pub walked : Walked shows makes board partitions all start first rest before printed
+  pub walked : Walked shows makes setup partitions all start first rest before printed
   pub moves : Moves shows makes before.board h.board
   pub silent : KeepsUnless f printed now
-  pub reason : NextEnds board (seen h).runner.answered f rest
+  pub reason : NextEnds setup.board (seen h).runner.answered f rest
   pub fails : NextFails rest before f h
 
 -- what lines come to
-abbrev pub Comes : {D : Type 0} → (D → DiskState) → (D → DiskCall → D → Type 0) → List GuestConfig
+abbrev pub Comes : {D : Type 0} → (D → DiskState) → (D → DiskCall → D → Type 0) → SetupState
     → List Partition → List Said → Option (List ℕ) → Moment D → Result (Unit {0}) Fault
     → HostState D → Option (List ℕ) → Type 0
-Comes shows makes board partitions all start first (Ok done) h now =
-    Walked shows makes board partitions all start first [] h now
-Comes shows makes board partitions all start first (Err f) h now =
-    Stopped shows makes board partitions all start first f h now
+Comes shows makes setup partitions all start first (Ok done) h now =
+    Walked shows makes setup partitions all start first [] h now
+Comes shows makes setup partitions all start first (Err f) h now =
+    Stopped shows makes setup partitions all start first f h now
 
 abbrev pub LinesCome : {D : Type 0} → (D → DiskState) → (D → DiskCall → D → Type 0) → List Line
     → HostState D → Option (List ℕ) → Result (Unit {0}) Fault → HostState D → Option (List ℕ)
     → Type 0
 LinesCome shows makes read old start ended new now =
-    (board : List GuestConfig) (partitions : List Partition) → Starts shows board partitions old
-    → AreWithin (length board) read
-    → Comes shows makes board partitions (map said read) start
+    (setup : SetupState) (partitions : List Partition) → Starts shows setup partitions old
+    → AreWithin (length setup.board) read
+    → Comes shows makes setup partitions (map said read) start
     (moment_of (λ g. []) old start) ended new now
 
 -- A host's last board, and its disk. The calls went well exactly where none has failed, and are

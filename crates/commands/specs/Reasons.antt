@@ -1,18 +1,16 @@
 -- Whose guests a run works on, and where a store lies.
 use Rattle.std.specs.Prelude.{ℕ, ◌+◌, ◌<◌, ◌≤◌, List, length, Option, Some, None, slice_get}
 use Rattle.rpmb_frame.specs.declared.config.GuestConfig.{GuestConfig}
-use Rattle.guest_driver.specs.Config.{AreDrivers}
-use Rattle.guest_driver.specs.declared.config.DriverConfig.{DriverConfig}
+use Rattle.guest_driver.specs.Config.{AreDrivers, SetupState}
 use Rattle.script.specs.Line.{Said, store}
 use Rattle.host.specs.Host.{HostView}
 use Rattle.host.specs.Reasons.{AreClear, AreGuestsOf}
 
--- the guests are those of the board, each with a driver that fits in its memory, and between two
--- lines no chain is in flight, but of guests that are stuck
-pub record IsHostOf (board : List GuestConfig) (h : HostView) : Type 0 where
-  pub drivers : List DriverConfig
-  pub fit : AreDrivers board drivers
-  pub own : AreGuestsOf (record { board = board; drivers = drivers }) h.guests
+-- the guests are those of the board, each with the driver that the board file gives it, and between
+-- two lines no chain is in flight, but of guests that are stuck
+pub record IsHostOf (setup : SetupState) (h : HostView) : Type 0 where
+  pub fit : AreDrivers setup.board setup.drivers
+  pub own : AreGuestsOf setup h.guests
   pub clear : AreClear h.guests
 
 -- so many bytes from this address on don't all lie in the guest's memory

@@ -29,7 +29,7 @@ fn obey<R: AllocGlobal + Threads + Wait + Sync, D: Disk + Send + Drop, W: Write>
 ) -> (Result<(), Fault>, Option<D>)
     requires { IsFormat command
         → (D.state disk).len ≡ image_length (capacities_of setup.now.board) }
-    ensures { Does D.state D.makes command.entry setup.now.board script.now disk
+    ensures { Does D.state D.makes command.entry setup.now script.now disk
         (W.contents out.old) result.0 result.1 (W.contents out.new) }
 {
     let board = setup.board();
@@ -56,10 +56,10 @@ fn obey<R: AllocGlobal + Threads + Wait + Sync, D: Disk + Send + Drop, W: Write>
     }
 }
 
-/// Performs the command, tells on standard error the fault that ended it, if one did, and gives back
-/// how it ended, and the disk. All work on the disk's content, `run` and `serve` with the text of a
-/// script. What was printed is flushed before its end is decided. The disk is lost where the threads
-/// of `serve` came to a fault.
+/// Performs the command, tells on standard error the fault that ended it, if one did, and gives
+/// back how it ended, and the disk. All work on the disk's content, `run` and `serve` with the text
+/// of a script. What was printed is flushed before its end is decided. The disk is lost where the
+/// threads of `serve` came to a fault.
 pub fn perform<R: AllocGlobal + Threads + Wait + Sync, D: Disk + Send + Drop, W: Write, E: Write>(
     rt: &R,
     command: Command<'_>,
@@ -73,7 +73,7 @@ pub fn perform<R: AllocGlobal + Threads + Wait + Sync, D: Disk + Send + Drop, W:
     requires { IsFormat command
         → (D.state disk).len ≡ image_length (capacities_of setup.now.board) }
     // It did what its own function promises, and standard error tells how that ended.
-    ensures { Performs D.state D.makes command.entry setup.now.board script.now disk
+    ensures { Performs D.state D.makes command.entry setup.now script.now disk
         (W.contents out.old) result.0 result.1 (W.contents out.new)
         (E.contents err.old) (E.contents err.new) }
 {

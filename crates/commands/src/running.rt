@@ -115,7 +115,7 @@ fn run_lines<D: Disk, W: Write>(
 
 /// The guests of an image, each in its first session. The disk is given back with a fault.
 fn open_host<D: Disk>(alloc: Global, disk: D, setup: &BoardSetup) -> Result<Host<D>, (D, Fault)>
-    ensures opened { IfOk result (IsOpened D.state D.makes setup.now.board disk) }
+    ensures opened { IfOk result (IsOpened D.state D.makes setup.now disk) }
     ensures calm { IfOk result (λ h. IsCalm D.state h.board) }
     ensures ends { IfErr result
         (λ e. OpeningEnds (capacities_of setup.now.board) (D.state disk) (D.state e.0) e.1) }
@@ -151,7 +151,7 @@ fn run_on<D: Disk, W: Write>(
 ) -> (Result<(), Fault>, D)
     requires sized { All (λ line. IsSized (said line)) lines.items }
     requires within { AreWithin (length setup.now.board) lines.items }
-    ensures { AnyMoment D.state D.makes setup.now.board (map said lines.items) disk
+    ensures { AnyMoment D.state D.makes setup.now (map said lines.items) disk
         (W.contents out.old) result.0 result.1 (W.contents out.new) }
 {
     let mut host = match open_host(alloc, disk, setup) {
@@ -206,7 +206,7 @@ pub fn run<D: Disk, W: Write>(
     // also one that stores into guest memory, made the call of the host that it says, and a chain
     // printed what the host answered.
     ensures moments { (lines : List Said) → Says setup.now.board script.now lines
-        → AnyMoment D.state D.makes setup.now.board lines disk (W.contents out.old) result.0
+        → AnyMoment D.state D.makes setup.now lines disk (W.contents out.old) result.0
         result.1 (W.contents out.new) }
     // With a fault it has printed what a front of its lines prints, unless standard output took no
     // more; where a call of the disk failed, all that they print, with failures from then on.

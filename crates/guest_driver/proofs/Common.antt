@@ -65,4 +65,4 @@ pub use Rattle.guest_driver.specs.WalkLaw.{packed_area, split_area, IsPlaced}
 pub use Rattle.guest_driver.specs.declared.fault.DriverFault.TheVariants.{NoRoom, OutOfRange}
 pub use Rattle.guest_driver.specs.declared.fault.DriverFault.TheVariants.{NoMemory, BadUsed}
 pub use Rattle.guest_driver.specs.declared.flight.Flight.{Flight}
-pub use Rattle.guest_driver.specs.declared.form.Form.{Form}
+pub use Rattle.guest_driver.specs.declared.config.DriverConfig.{DriverConfig}

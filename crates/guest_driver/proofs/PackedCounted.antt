@@ -37,7 +37,7 @@ owner-replicate : (size id : ℕ) → owner (replicate size None) id ≡ None
 owner-replicate size id = grind (arith, get_or-replicate, get_or_past, length-replicate)
 
 pub begins_counted : ADriverBeginsCounted
-begins_counted form size event_idx kind =
+begins_counted config kind =
     grind (arith, length-replicate, owner-replicate, taken-replicate)
 
 -- an id that is written as first and last descriptor
@@ -47,31 +47,32 @@ one_id owners i last o is = ap (λ l. slice_set (slice_set owners i o) l o) is �
 
 add_counted : (driver : DriverState) (c : Offer) → IsCounted driver
     → 0 < length c.bytes + c.writable → Takes driver.owners false c.head c.last
-    → places_by Packed driver.form.indirect c ≤ free_places driver.size driver.offered driver.used
+    → places_by Packed driver.config.indirect c ≤ free_places driver.config.queue driver.offered
+    driver.used
     → IsCounted (after_offer driver c)
 add_counted driver c counted some takes fits =
     let kind = counted.kind in
-    let size = driver.size in
+    let size = driver.config.queue in
     let low : c.head < length driver.owners = takes.0.below in
-    let flight : Flight = flight_of driver.form driver.offered c in
+    let flight : Flight = flight_of driver.config driver.offered c in
     let owners : List (Option ℕ) = slice_set driver.owners c.head (Some c.head) in
     let flights : List Flight = slice_set driver.flights c.head flight in
     let one : slice_set owners c.last (Some c.head) ≡ owners =
     one_id driver.owners c.head c.last (Some c.head) takes.1 in
     let taken : ℕ = places_taken driver.owners driver.flights in
-    let n : ℕ = places_of driver.form c in
-    let is_n : n ≡ places_by Packed driver.form.indirect c =
-    ap (λ (k : RingKind). places_by k driver.form.indirect c) kind in
+    let n : ℕ = places_of driver.config c in
+    let is_n : n ≡ places_by Packed driver.config.indirect c =
+    ap (λ (k : RingKind). places_by k driver.config.indirect c) kind in
     let more : places_taken owners flights ≡ taken + n =
     taken-more driver.owners driver.flights c.head c.head flight (omega arith) low takes.0.free
     in
-    let m : ℕ = places_by Packed driver.form.indirect c in
+    let m : ℕ = places_by Packed driver.config.indirect c in
     let at_marks : m ≤ free_places size (mark_of size (counted.reaped + taken))
     (mark_of size counted.reaped) = grind arith in
     let wide : 0 < size = omega arith in
     let room : taken + m ≤ size = room_more size counted.reaped taken m wide counted.room at_marks
     in
-    let goes : mark_after driver.form.kind size driver.offered n
+    let goes : mark_after driver.config.ring size driver.offered n
     ≡ mark_of size (counted.reaped + places_taken owners flights) = grind (arith, mark_next) in
     let kept : IsCounted (record (after_offer driver c) { owners = owners }) = record {
       kind = kind;
@@ -80,7 +81,7 @@ add_counted driver c counted some takes fits =
       alone = entry_more (λ id f. f.last ≡ id) driver.owners driver.flights c.head flight
           (omega arith) counted.alone takes.1;
       each = entry_more (λ id f. 0 < f.places) driver.owners driver.flights c.head flight
-          (omega arith) counted.each (some_places driver.form.kind driver.form.indirect c some);
+          (omega arith) counted.each (some_places driver.config.ring driver.config.indirect c some);
       reaped = counted.reaped;
       used = counted.used;
       offered = goes;
@@ -95,11 +96,12 @@ adds_counted : (memory : List ℕ) (driver : DriverState) (readable : List ℕ) 
     → Adds memory driver readable writable head memory' driver' → IsCounted driver'
 adds_counted memory driver readable writable head memory' driver' some counted adds =
     let c : Offer = offer_of readable writable head adds.last in
-    let form = driver.form in
-    let takes = subst (λ (k : RingKind). TakesBy (ordered_by k form.in_order) driver.owners
-    driver.next (two_by k form.indirect (has_two readable writable)) head adds.last)
+    let config = driver.config in
+    let takes = subst (λ (k : RingKind). TakesBy (ordered_by k config.in_order) driver.owners
+    driver.next (two_by k config.indirect (has_two readable writable)) head adds.last)
     counted.kind adds.takes in
-    let fits = subst (λ (k : RingKind). fits_by k form.indirect driver c) counted.kind adds.fits in
+    let fits = subst (λ (k : RingKind). fits_by k config.indirect driver c) counted.kind adds.fits
+    in
     subst IsCounted (sym adds.after) (add_counted driver c counted some takes fits)
 
 pub offer_counted : AnOfferIsCounted
@@ -133,7 +135,7 @@ reap_counted memory driver (Err BadUsed) driver' counted reaps =
 
 -- where no id is free, no place is
 none_free : (driver : DriverState) → IsCounted driver → AreTaken driver.owners 0
-    → free_places driver.size driver.offered driver.used ≡ 0
+    → free_places driver.config.queue driver.offered driver.used ≡ 0
 none_free driver counted taken = grind (arith, free_is, taken-all)
 
 pub full_by_places : APackedRingIsFullByItsPlaces

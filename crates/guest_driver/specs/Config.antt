@@ -4,7 +4,6 @@ use Rattle.std.specs.Int.{is_power_of_two}
 use Rattle.mmio_transport.specs.declared.ring_kind.RingKind.{RingKind}
 use Rattle.mmio_transport.specs.declared.ring_kind.RingKind.TheVariants.{Split, Packed}
 use Rattle.rpmb_frame.specs.declared.config.GuestConfig.{GuestConfig}
-use Rattle.guest_driver.specs.Driver.{DriverState}
 use Rattle.guest_driver.specs.DriverLayout.{layout}
 use Rattle.guest_driver.specs.declared.config.DriverConfig.{DriverConfig}
 
@@ -40,13 +39,3 @@ pub record AreDrivers (guests : List GuestConfig) (drivers : List DriverConfig) 
 pub record SetupState : Type 0 where
   pub board : List GuestConfig
   pub drivers : List DriverConfig
-
--- how a driver set up its queue, as it keeps it
-abbrev pub config_of : DriverState → DriverConfig
-config_of driver = record {
-  queue = driver.size;
-  ring = driver.form.kind;
-  indirect = driver.form.indirect;
-  event_idx = driver.event_idx;
-  in_order = driver.form.in_order;
-}

@@ -6,7 +6,7 @@ use Rattle.std.specs.Prelude.{Result}
 use Rattle.mmio_transport.specs.declared.ring_kind.RingKind.TheVariants.{Packed}
 use Rattle.guest_driver.specs.declared.flight.Flight.{Flight}
 use Rattle.guest_driver.specs.declared.fault.DriverFault.{DriverFault}
-use Rattle.guest_driver.specs.declared.form.Form.{Form}
+use Rattle.guest_driver.specs.declared.config.DriverConfig.{DriverConfig}
 use Rattle.guest_driver.specs.declared.reaping.Reaped.{Reaped}
 use Rattle.guest_driver.specs.Kinds.{places_of}
 use Rattle.guest_driver.specs.PackedHeld.{free_places}
@@ -26,24 +26,24 @@ places_taken (Some head ∷ owners) (flight ∷ flights) = flight.places + place
 -- a place at least, and from the place used next to the one offered at next there are as many as
 -- the chains in flight take.
 pub record IsCounted (driver : DriverState) : Type 0 where
-  pub kind : driver.form.kind ≡ Packed
-  pub owned : length driver.owners ≡ driver.size
-  pub flown : length driver.flights ≡ driver.size
+  pub kind : driver.config.ring ≡ Packed
+  pub owned : length driver.owners ≡ driver.config.queue
+  pub flown : length driver.flights ≡ driver.config.queue
   pub alone : (id : ℕ) → owner driver.owners id ≢ None
       → (get_or driver.flights id no_flight).last ≡ id
   pub each : (id : ℕ) → owner driver.owners id ≢ None
       → 0 < (get_or driver.flights id no_flight).places
   -- how many places were used and taken back
   pub reaped : ℕ
-  pub used : driver.used ≡ mark_of driver.size reaped
+  pub used : driver.used ≡ mark_of driver.config.queue reaped
   pub offered : driver.offered
-      ≡ mark_of driver.size (reaped + places_taken driver.owners driver.flights)
-  pub room : places_taken driver.owners driver.flights ≤ driver.size
+      ≡ mark_of driver.config.queue (reaped + places_taken driver.owners driver.flights)
+  pub room : places_taken driver.owners driver.flights ≤ driver.config.queue
 
 -- so a driver begins, and each call keeps it
 abbrev pub ADriverBeginsCounted : Type 0
-ADriverBeginsCounted = (form : Form) (size : ℕ) (event_idx : Bool)
-    → form.kind ≡ Packed → IsCounted (first_driver form size event_idx)
+ADriverBeginsCounted = (config : DriverConfig) → config.ring ≡ Packed
+    → IsCounted (first_driver config)
 
 abbrev pub AnOfferIsCounted : Type 0
 AnOfferIsCounted = (memory : List ℕ) (driver : DriverState) (readable : List ℕ) (writable : ℕ)
@@ -61,5 +61,5 @@ abbrev pub APackedRingIsFullByItsPlaces : Type 0
 APackedRingIsFullByItsPlaces = (driver : DriverState) (readable : List ℕ) (writable : ℕ)
     → 0 < length readable + writable → IsCounted driver
     → IsFull driver readable writable
-    ↔ (free_places driver.size driver.offered driver.used
-    < places_of driver.form (offer_of readable writable 0 0))
+    ↔ (free_places driver.config.queue driver.offered driver.used
+    < places_of driver.config (offer_of readable writable 0 0))

@@ -30,19 +30,19 @@ pub use Rattle.mmio_transport.specs.declared.fault.DeviceFault.TheVariants.{Need
 pub use Rattle.mmio_transport.specs.declared.fault.DeviceFault.TheVariants.{NoMemory as Starved}
 pub use Rattle.mmio_transport.specs.declared.fault.DeviceFault.TheVariants.{Refused as Spoiled}
 pub use Rattle.guest_driver.specs.Access.{ButForMemory}
-pub use Rattle.guest_driver.specs.Config.{AreDrivers, IsDriver, SetupState, config_of}
+pub use Rattle.guest_driver.specs.Config.{AreDrivers, IsDriver, SetupState}
 pub use Rattle.guest_driver.specs.declared.config.DriverConfig.{DriverConfig}
 pub use Rattle.guest_driver.specs.Driver.{DriverState, offer_of, Offering, Adds, first_driver}
 pub use Rattle.guest_driver.specs.Driver.{TakesBy, after_offer, in_table_order, takes_two, owner}
 unfoldable pub use Rattle.guest_driver.specs.Negotiation.{negotiated, with_areas}
-pub use Rattle.guest_driver.specs.Negotiation.{form_of, after_writes}
+pub use Rattle.guest_driver.specs.Negotiation.{after_writes}
 pub use Rattle.guest_driver.specs.Offered.{Offer}
 pub use Rattle.guest_driver.specs.OnDevice.{IsServed, IsBackFrom, IsFound, HasNumberIn}
 pub use Rattle.guest_driver.specs.OnDevice.{IsSameSession, IsJobOf, IsPopped, IsAtItsEnd}
 pub use Rattle.guest_driver.specs.OnDevice.{IsPublished, IsReplyTo, PublishedBy}
 pub use Rattle.guest_driver.specs.Reap.{Reaps, after_reap}
 pub use Rattle.guest_driver.specs.declared.fault.DriverFault.{DriverFault}
-pub use Rattle.guest_driver.specs.declared.form.Form.{Form}
+pub use Rattle.guest_driver.specs.declared.config.DriverConfig.{DriverConfig}
 pub use Rattle.guest_driver.specs.declared.reaping.Reaped.{Reaped}
 pub use Rattle.rpmb_book.specs.Guest.{GuestState, GuestCore, core_after}
 pub use Rattle.board.proofs.Linked.{there_is, drives_linked}

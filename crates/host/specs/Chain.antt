@@ -7,7 +7,7 @@ use Rattle.guest_driver.specs.Reap.{Reaps}
 use Rattle.guest_driver.specs.declared.fault.DriverFault.{DriverFault}
 use Rattle.guest_driver.specs.declared.fault.DriverFault.TheVariants as driver
 use Rattle.guest_driver.specs.declared.reaping.Reaped.{Reaped}
-use Rattle.host.specs.Guest.{stuck_by}
+use Rattle.host.specs.Guest.{queue_of, stuck_by}
 use Rattle.queue_looks.specs.Looks.{LooksOn, Share}
 use Rattle.queue_looks.specs.declared.fault.HostFault.{HostFault}
 use Rattle.queue_looks.specs.declared.fault.HostFault.TheVariants as host
@@ -76,7 +76,7 @@ pub record ChainDoes (guest : ℕ) (front : Front) (s : Share) (readable : List 
   pub lent : DeviceState
   pub offering : Offering s.device.memory front.driver readable writable offered lent.memory driver
   pub rest : ButForMemory s.device lent
-  pub serves : FollowsOffer guest (max 1 front.places) offered driver
+  pub serves : FollowsOffer guest (max 1 (queue_of front)) offered driver
       (record s { device = lent }) told d' s'
 
 -- 3. The front

@@ -2,9 +2,8 @@
 use Rattle.std.specs.Prelude.{◌≡◌, ◌≢◌, ◌⊎◌, ℕ, ◌+◌, ◌<◌, ◌≤◌, Bool, true, false, if◌then◌else◌}
 use Rattle.std.specs.Prelude.{List, [], ◌∷◌, ◌++◌, length, Option, Some, None, Result, Ok, Err}
 use Rattle.std.specs.Prelude.{slice_get, take}
-use Rattle.mmio_transport.specs.Device.{after_write}
 use Rattle.guest_driver.specs.Driver.{Offering, first_driver}
-use Rattle.guest_driver.specs.Negotiation.{is_in_service, negotiated}
+use Rattle.guest_driver.specs.Negotiation.{is_in_service, negotiated, renegotiated}
 use Rattle.guest_driver.specs.Reap as reap
 use Rattle.guest_driver.specs.declared.fault.DriverFault.{DriverFault}
 use Rattle.guest_driver.specs.declared.fault.DriverFault.TheVariants.{BadUsed, NoMemory, NoRoom}
@@ -120,18 +119,14 @@ OffersBy None outstanding chain guest result guest' =
 
 -- the driver has negotiated with its device, which is in service then, or isn't
 pub record IsBegun (guest guest' : Guest) (stuck : Option Stuck) : Type 0 where
-  pub device : guest'.device ≡ negotiated guest.device guest.driver.form guest.driver.size
-      guest.driver.event_idx
-  pub driver : guest'.driver
-      ≡ first_driver guest.driver.form guest.driver.size guest.driver.event_idx
+  pub device : guest'.device ≡ negotiated guest.device guest.driver.config
+  pub driver : guest'.driver ≡ first_driver guest.driver.config
   pub told : stuck ≡ (if is_in_service guest'.device then None else Some NoAnswer)
 
 -- the driver has reset its device, and brought it into service again where it could
 pub record IsRestarted (guest guest' : Guest) (stuck : Option Stuck) : Type 0 where
-  pub device : guest'.device ≡ negotiated (after_write guest.device 0x70 4 0) guest.driver.form
-      guest.driver.size guest.driver.event_idx
-  pub driver : guest'.driver
-      ≡ first_driver guest.driver.form guest.driver.size guest.driver.event_idx
+  pub device : guest'.device ≡ renegotiated guest.device guest.driver.config
+  pub driver : guest'.driver ≡ first_driver guest.driver.config
   pub stopped : guest'.stopped ≡ false
   pub told : stuck ≡ (if is_in_service guest'.device then None else Some NoAnswer)
 

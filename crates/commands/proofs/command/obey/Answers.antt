@@ -5,11 +5,11 @@ use Rattle.commands.proofs.command.obey.Goals as goal
 
 pub returns-in-Format : goal.returns-in-Format
 returns-in-Format g c =
-    rw (sym c.board-board.ensures) (let r = c.format-done in
-    subst (λ (k : Command). Does g.D.Disk.state g.D.Disk.makes k c.board-board.result.now
+    let r = c.format-done in
+    subst (λ (k : Command). Does g.D.Disk.state g.D.Disk.makes k c.args.setup.now
     c.args.script.now c.args.disk (g.W.Write.contents c.args.out.now) r.result (Some r.new.disk)
     (g.W.Write.contents r.new.out)) (sym c.in-Format.is)
-    (record {
+    (rw (sym c.board-board.ensures) (record {
       formatted = r.ensures.formatted;
       printed = r.ensures.printed;
       ends = r.ensures.ends;
@@ -19,11 +19,11 @@ returns-in-Format g c =
 
 pub returns-in-Show : goal.returns-in-Show
 returns-in-Show g c =
-    rw (sym c.board-board.ensures) (let r = c.show-done in
-    subst (λ (k : Command). Does g.D.Disk.state g.D.Disk.makes k c.board-board.result.now
+    let r = c.show-done in
+    subst (λ (k : Command). Does g.D.Disk.state g.D.Disk.makes k c.args.setup.now
     c.args.script.now c.args.disk (g.W.Write.contents c.args.out.now) r.result.0 (Some r.result.1)
     (g.W.Write.contents r.new.out)) (sym c.in-Show.is)
-    (record {
+    (rw (sym c.board-board.ensures) (record {
       shown = r.ensures.shown;
       image = r.ensures.image;
       ends = r.ensures.ends;
@@ -35,11 +35,11 @@ returns-in-Show g c =
 
 pub returns-in-Upgrade : goal.returns-in-Upgrade
 returns-in-Upgrade g c =
-    rw (sym c.board-board.ensures) (let r = c.upgrade-done in
-    subst (λ (k : Command). Does g.D.Disk.state g.D.Disk.makes k c.board-board.result.now
+    let r = c.upgrade-done in
+    subst (λ (k : Command). Does g.D.Disk.state g.D.Disk.makes k c.args.setup.now
     c.args.script.now c.args.disk (g.W.Write.contents c.args.out.now) r.result (Some r.new.disk)
     (g.W.Write.contents r.new.out)) (sym c.in-Upgrade.is)
-    (record {
+    (rw (sym c.board-board.ensures) (record {
       stands = r.ensures.stands;
       calls = r.ensures.calls;
       unwritten = r.ensures.unwritten;
@@ -53,7 +53,7 @@ returns-in-Upgrade g c =
 pub returns-in-Run : goal.returns-in-Run
 returns-in-Run g c =
     let r = c.run-done in
-    subst (λ (k : Command). Does g.D.Disk.state g.D.Disk.makes k c.args.setup.now.board
+    subst (λ (k : Command). Does g.D.Disk.state g.D.Disk.makes k c.args.setup.now
     c.args.script.now c.args.disk (g.W.Write.contents c.args.out.now) r.result.0 (Some r.result.1)
     (g.W.Write.contents r.new.out)) (sym c.in-Run.is)
     (record {
@@ -68,7 +68,7 @@ returns-in-Run g c =
 pub returns-in-Serve : goal.returns-in-Serve
 returns-in-Serve g c =
     let r = c.serve in
-    subst (λ (k : Command). Does g.D.Disk.state g.D.Disk.makes k c.args.setup.now.board
+    subst (λ (k : Command). Does g.D.Disk.state g.D.Disk.makes k c.args.setup.now
     c.args.script.now c.args.disk (g.W.Write.contents c.args.out.now) r.result.0 r.result.1
     (g.W.Write.contents r.new.out)) (sym c.in-Serve.is)
     (record {

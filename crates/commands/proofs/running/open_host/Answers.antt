@@ -1,6 +1,8 @@
 use Rattle.std.proofs.Common.{ℕ, List, refl, subst, sym}
-use Rattle.commands.proofs.Common.{GuestConfig, OpeningEnds, Partition, Request, StaysLinked}
+use Rattle.commands.proofs.Common.{GuestConfig, IsOpened, OpeningEnds, Partition, Request}
+use Rattle.commands.proofs.Common.{StaysLinked}
 use Rattle.commands.proofs.Opened.{opened_host, opening_ends}
+use Rattle.guest_driver.specs.Config.{SetupState}
 use Rattle.host.specs.Opening.{IsFirstHost}
 use Rattle.commands.proofs.running.open_host.Goals as goal
 
@@ -8,13 +10,17 @@ pub returns-in-Ok-new-clause-opened : goal.returns-in-Ok-new-clause-opened
 returns-in-Ok-new-clause-opened g c =
     let e = c.in-Ok.ensures in
     let n = c.in-Ok-new.ensures in
-    let drivers = c.args.setup.now.drivers in
     let host = c.in-Ok-new.host in
-    rw (sym c.board.ensures) (opened_host g.D.Disk.state g.D.Disk.makes c.board.result.now
-    c.args.disk c.in-Ok.opened host 1 e.begins (λ known. (e.found known).stands) e.answers
-    e.any_moment (e.unfailed refl) drivers
-    (subst (λ (cs : List GuestConfig). IsFirstHost (record { board = cs; drivers = drivers })
-    c.in-Ok.opened host) (sym c.board.ensures) n.first)
+    let on : List GuestConfig → SetupState = λ cs. record {
+      board = cs;
+      drivers = c.args.setup.now.drivers;
+    } in
+    subst (λ (cs : List GuestConfig).
+    IsOpened g.D.Disk.state g.D.Disk.makes (on cs) c.args.disk host) c.board.ensures
+    (opened_host g.D.Disk.state g.D.Disk.makes (on c.board.result.now) c.args.disk c.in-Ok.opened
+    host 1 e.begins (λ known. (e.found known).stands) e.answers e.any_moment (e.unfailed refl)
+    (subst (λ (cs : List GuestConfig). IsFirstHost (on cs) c.in-Ok.opened host)
+    (sym c.board.ensures) n.first)
     (subst (λ (cs : List GuestConfig). (bases : ℕ → Partition) (accepted : ℕ → List Request)
     → StaysLinked g.D.Disk.state cs bases accepted c.in-Ok.opened
     → StaysLinked g.D.Disk.state cs bases accepted host.board) (sym c.board.ensures) n.linked))

@@ -12,7 +12,7 @@ use Rattle.commands.proofs.running.run.Goals as goal
 pub returns-in-Ok-clause-ran : goal.returns-in-Ok-clause-ran
 returns-in-Ok-clause-ran g c =
     let lines = c.in-Ok.lines.items in
-    all_ran g.D.Disk.state g.D.Disk.makes c.args.setup.now.board c.args.script.now (map said lines)
+    all_ran g.D.Disk.state g.D.Disk.makes c.args.setup.now c.args.script.now (map said lines)
     c.args.disk (g.W.Write.contents c.args.out.now) c.run_on.result.1
     (g.W.Write.contents c.run_on.new.out) (λ ls says.
     says_same ls lines _ says c.in-Ok.ensures.ok)
@@ -26,7 +26,7 @@ returns-in-Ok-clause-bad g c n bad =
 pub returns-in-Ok-clause-ends : goal.returns-in-Ok-clause-ends
 returns-in-Ok-clause-ends g c =
     let lines = c.in-Ok.lines.items in
-    all_ends g.D.Disk.state g.D.Disk.makes c.args.setup.now.board c.args.script.now (map said lines)
+    all_ends g.D.Disk.state g.D.Disk.makes c.args.setup.now c.args.script.now (map said lines)
     c.args.disk (g.W.Write.contents c.args.out.now) c.run_on.result.1
     (g.W.Write.contents c.run_on.new.out) (λ ls says.
     says_same ls lines _ says c.in-Ok.ensures.ok)
@@ -36,7 +36,7 @@ returns-in-Ok-clause-ends g c =
 pub returns-in-Ok-clause-stopped : goal.returns-in-Ok-clause-stopped
 returns-in-Ok-clause-stopped g c =
     let lines = c.in-Ok.lines.items in
-    all_prints g.D.Disk.state g.D.Disk.makes c.args.setup.now.board c.args.script.now
+    all_prints g.D.Disk.state g.D.Disk.makes c.args.setup.now c.args.script.now
     (map said lines) c.args.disk (g.W.Write.contents c.args.out.now) c.run_on.result.1
     (g.W.Write.contents c.run_on.new.out) (λ ls says.
     says_same ls lines _ says c.in-Ok.ensures.ok)
@@ -44,7 +44,7 @@ returns-in-Ok-clause-stopped g c =
 
 pub returns-in-Ok-clause-moments : goal.returns-in-Ok-clause-moments
 returns-in-Ok-clause-moments g c lines is =
-    subst (λ (x : List Said). AnyMoment g.D.Disk.state g.D.Disk.makes c.args.setup.now.board x
+    subst (λ (x : List Said). AnyMoment g.D.Disk.state g.D.Disk.makes c.args.setup.now x
     c.args.disk (g.W.Write.contents c.args.out.now) c.run_on.result.0 c.run_on.result.1
     (g.W.Write.contents c.run_on.new.out))
     (sym (says_same lines c.in-Ok.lines.items _ is c.in-Ok.ensures.ok)) c.run_on.ensures
@@ -70,9 +70,9 @@ returns-in-Err-clause-moments g c lines is =
     let start = g.W.Write.contents c.args.out.now in
     reading_cases (λ f. ((n : ℕ) → f ≡ fault.BadScript n
     → IsBadAt c.args.setup.now.board c.args.script.now n)
-    → AnyMoment g.D.Disk.state g.D.Disk.makes c.args.setup.now.board lines c.args.disk start (Err f)
+    → AnyMoment g.D.Disk.state g.D.Disk.makes c.args.setup.now lines c.args.disk start (Err f)
     c.args.disk start)
-    (λ bad. run_unread g.D.Disk.state g.D.Disk.makes c.args.setup.now.board lines c.args.disk start)
+    (λ bad. run_unread g.D.Disk.state g.D.Disk.makes c.args.setup.now lines c.args.disk start)
     (λ n bad. absurd (not_bad n _ (said_good (line_of (length c.args.setup.now.board)) lines
     (lines_of c.args.script.now) is) (bad n refl)))
     c.in-Err.fault c.in-Err.ensures.reads (λ n same. c.in-Err.ensures.bad n (ap Err same))

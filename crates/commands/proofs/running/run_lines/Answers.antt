@@ -18,10 +18,10 @@ loop-line-init g c =
       subst sized same c.requires,
       (λ guests within. subst (AreWithin guests) same within),
       moves_none g.D.Disk.state g.D.Disk.makes c.args.host.now.board,
-      (λ board partitions starts within.
-          subst (λ ls. Walked g.D.Disk.state g.D.Disk.makes board partitions all start
+      (λ setup partitions starts within.
+          subst (λ ls. Walked g.D.Disk.state g.D.Disk.makes setup partitions all start
           (moment_of (λ k. []) c.args.host.now start) ls c.args.host.now start) (ap (map said) same)
-          (walk_begins g.D.Disk.state g.D.Disk.makes board partitions c.args.host.now all start
+          (walk_begins g.D.Disk.state g.D.Disk.makes setup partitions c.args.host.now all start
           starts)),
     )
 
@@ -48,28 +48,29 @@ loop-line-preserved g c =
           (subst (AreWithin guests) rest (now.invariant.1 guests within))),
       moves_twice g.D.Disk.state g.D.Disk.makes c.args.host.now.board now.host.board
           c.run_line.new.host.board now.invariant.2 ran.moves,
-      (λ board partitions starts within.
+      (λ setup partitions starts within.
           let first = moment_of (λ k. []) c.args.host.now start in
-          let so = subst (λ ls. Walked g.D.Disk.state g.D.Disk.makes board partitions all start
+          let so = subst (λ ls. Walked g.D.Disk.state g.D.Disk.makes setup partitions all start
           first ls now.host here) (ap (map said) rest)
-          (now.invariant.3 board partitions starts within) in
-          walk_on g.D.Disk.state g.D.Disk.makes board partitions all start first
+          (now.invariant.3 setup partitions starts within) in
+          walk_on g.D.Disk.state g.D.Disk.makes setup partitions all start first
           (said c.in-Some.line) (map said left) now.host c.run_line.new.host here next few so
           ran
-          (head_within (length board) c.in-Some.line left
-          (subst (AreWithin (length board)) rest (now.invariant.1 (length board) within)))),
+          (head_within (length setup.board) c.in-Some.line left
+          (subst (AreWithin (length setup.board)) rest
+          (now.invariant.1 (length setup.board) within)))),
     )
 
 pub returns-clause-moments : goal.returns-clause-moments
-returns-clause-moments g c board partitions starts within =
+returns-clause-moments g c setup partitions starts within =
     let now = c.loop-line in
     let start = g.W.Write.contents c.args.out.now in
     let left = now.line-iterator.rest in
     let long : left.len ≡ length left.items = omega (arith, left.ok) in
     let rest = ap (map said) (none_left left.items left.len c.in-None.ensures.steps.0 long) in
-    subst (λ ls. Walked g.D.Disk.state g.D.Disk.makes board partitions (map said c.args.lines.items)
+    subst (λ ls. Walked g.D.Disk.state g.D.Disk.makes setup partitions (map said c.args.lines.items)
     start (moment_of (λ k. []) c.args.host.now start) ls now.host (g.W.Write.contents now.out))
-    rest (now.invariant.3 board partitions starts within)
+    rest (now.invariant.3 setup partitions starts within)
 
 pub returns-in_err-run_line-clause-moves : goal.returns-in_err-run_line-clause-moves
 returns-in_err-run_line-clause-moves g c =
@@ -86,8 +87,8 @@ returns-in_err-run_line-clause-moments g c =
     (g.W.Write.contents now.out) (Err f) (g.W.Write.contents c.run_line.new.out) h =
     c.in_err-run_line.ensures in
     let p = err_from_is_err_and c.from_residual.result c.from_residual.ensures.1 in
-    rw (p.1, p.2) (λ board partitions starts within.
-    let walked = now.invariant.3 board partitions starts within in
+    rw (p.1, p.2) (λ setup partitions starts within.
+    let walked = now.invariant.3 setup partitions starts within in
     record {
       rest = map said now.line-iterator.rest.items;
       before = now.host;
@@ -95,11 +96,13 @@ returns-in_err-run_line-clause-moments g c =
       walked = walked;
       moves = ran.moves;
       silent = ran.did.1;
-      reason = subst (NextEnds board (seen h).runner.answered f) (sym (ap (map said) rest))
-          (line_ends board (said c.in-Some.line) now.host h f ran.did.0
+      reason = subst (NextEnds setup.board (seen h).runner.answered f)
+          (sym (ap (map said) rest))
+          (line_ends setup (said c.in-Some.line) now.host h f ran.did.0
           (done_at {first = moment_of (λ k. []) c.args.host.now (g.W.Write.contents c.args.out.now)}
           walked.trail).guests
-          (head_within (length board) c.in-Some.line c.next.new.self.rest.items
-          (subst (AreWithin (length board)) rest (now.invariant.1 (length board) within))));
+          (head_within (length setup.board) c.in-Some.line c.next.new.self.rest.items
+          (subst (AreWithin (length setup.board)) rest
+          (now.invariant.1 (length setup.board) within))));
       fails = subst (λ ls. NextFails ls now.host f h) (sym (ap (map said) rest)) ran.did.0;
     })

@@ -1,6 +1,7 @@
 use Rattle.std.proofs.Common.{ℕ, List, [], length, map}
-use Rattle.commands.proofs.Common.{All, Partition, GuestConfig, Moves, Starts, Walked, moment_of}
+use Rattle.commands.proofs.Common.{All, Partition, Moves, Starts, Walked, moment_of}
 use Rattle.commands.proofs.Common.{AreWithin, IsSized}
+use Rattle.guest_driver.specs.Config.{SetupState}
 use Rattle.script.specs.Line.{said}
 use Rattle.commands.proofs.running.run_lines.Given as goal
 
@@ -10,9 +11,9 @@ invariant-loop-line g l =
     × ((guests : ℕ) → AreWithin guests l.fn.lines.items
     → AreWithin guests l.line-iterator.rest.items)
     × Moves g.D.Disk.state g.D.Disk.makes l.fn.host.board l.host.board
-    × ((board : List GuestConfig) (partitions : List Partition)
-    → Starts g.D.Disk.state board partitions l.fn.host
-    → AreWithin (length board) l.fn.lines.items
-    → Walked g.D.Disk.state g.D.Disk.makes board partitions (map said l.fn.lines.items)
+    × ((setup : SetupState) (partitions : List Partition)
+    → Starts g.D.Disk.state setup partitions l.fn.host
+    → AreWithin (length setup.board) l.fn.lines.items
+    → Walked g.D.Disk.state g.D.Disk.makes setup partitions (map said l.fn.lines.items)
     (g.W.Write.contents l.fn.out) (moment_of (λ k. []) l.fn.host (g.W.Write.contents l.fn.out))
     (map said l.line-iterator.rest.items) l.host (g.W.Write.contents l.out))

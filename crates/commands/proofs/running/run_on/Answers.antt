@@ -3,7 +3,7 @@ use Rattle.commands.proofs.running.run_on.Goals as goal
 
 pub returns-then-is_err : goal.returns-then-is_err
 returns-then-is_err g c =
-    run_unwritten g.D.Disk.state g.D.Disk.makes c.args.setup.now.board c.args.disk c.in-Ok.host
+    run_unwritten g.D.Disk.state g.D.Disk.makes c.args.setup.now c.args.disk c.in-Ok.host
     c.args.lines.items (g.W.Write.contents c.args.out.now) c.in-Ok.ensures.opened
     c.requires.within
     c.run_lines-ran.new.host c.run_lines-ran.result (g.W.Write.contents c.run_lines-ran.new.out)
@@ -13,7 +13,7 @@ returns-then-is_err g c =
 
 pub returns-in-Ok-ran : goal.returns-in-Ok-ran
 returns-in-Ok-ran g c =
-    run_finished g.D.Disk.state g.D.Disk.makes c.args.setup.now.board c.args.disk c.in-Ok.host
+    run_finished g.D.Disk.state g.D.Disk.makes c.args.setup.now c.args.disk c.in-Ok.host
     c.args.lines.items (g.W.Write.contents c.args.out.now) c.in-Ok.ensures.opened
     c.requires.within
     c.run_lines-ran.new.host c.finish.result.0 (g.W.Write.contents c.run_lines-ran.new.out)
@@ -23,7 +23,7 @@ returns-in-Ok-ran g c =
 
 pub returns-in-Err-ran : goal.returns-in-Err-ran
 returns-in-Err-ran g c =
-    run_stopped g.D.Disk.state g.D.Disk.makes c.args.setup.now.board c.args.disk c.in-Ok.host
+    run_stopped g.D.Disk.state g.D.Disk.makes c.args.setup.now c.args.disk c.in-Ok.host
     c.args.lines.items (g.W.Write.contents c.args.out.now) c.in-Ok.ensures.opened
     c.requires.within
     c.run_lines-ran.new.host c.in-Err-ran.fault (g.W.Write.contents c.run_lines-ran.new.out)

@@ -16,7 +16,8 @@ invariant_of-self c =
       used_low = omega arith;
       next_low = λ some. some;
       each = search (rules, arith);
-      stretch = λ ordered some. stretch_begins d.size c.fill.new.self.items c.fill-2.new.self.items
+      stretch = λ ordered some. stretch_begins d.config.queue c.fill.new.self.items
+          c.fill-2.new.self.items
           some
           (λ k low. ap (λ v. owner v k) owners ∙ get_or-replicate (length d.owners.items) k None
           None (omega (arith, low, size)));

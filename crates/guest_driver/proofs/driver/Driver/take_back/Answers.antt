@@ -17,11 +17,16 @@ invariant_of-self c =
     subst (λ (v : DriverState). owner v.owners id ≡ Some id) view c.requires.flight in
     let long = keeps.each_owner in
     let wide = keeps.each_flight in
-    let low : id < d.size = let e = owner_low d.owners.items id id head in omega (arith, e, long) in
+    let low : id < d.config.queue = let e = owner_low d.owners.items id id head in omega (
+      arith,
+      e,
+      long,
+    ) in
     let is : flight ≡ get_or d.flights.items id no_flight = c.index-flight.ensures
     ∙ get_or_default d.flights.items id flight no_flight (omega (arith, low, wide)) in
-    let after = subst (λ (v : DriverState). c.used_after-self-inside.result ≡ mark_after v.form.kind
-    v.size v.used flight.places) view c.used_after-self-inside.ensures.value in
+    let after = subst (λ (v : DriverState). c.used_after-self-inside.result ≡ mark_after
+    v.config.ring
+    v.config.queue v.used flight.places) view c.used_after-self-inside.ensures.value in
     let owners = slice_set d.owners.items id None in
     record {
       each_owner = length-set owners flight.last None ∙ length-set d.owners.items id None ∙ long;
@@ -32,21 +37,24 @@ invariant_of-self c =
       next_low = keeps.next_low;
       each = keeps.each;
       stretch = λ ordered some.
-          (let order = in_order_of d.form.kind d.form.in_order ordered in
-          let oldest = subst (λ (v : DriverState). v.form.in_order ≡ true
+          (let order = in_order_of d.config.ring d.config.in_order ordered in
+          let oldest = subst (λ (v : DriverState). v.config.in_order ≡ true
           → (get_or v.flights id no_flight).place ≡ v.used) view c.requires.oldest in
-          let less = stretch_back d.size d.offered d.used d.next id d.owners.items d.flights.items
+          let less = stretch_back d.config.queue d.offered d.used d.next id d.owners.items
+          d.flights.items
           (keeps.stretch ordered some) long low head (oldest order) (λ i below.
           (keeps.each i below).0) in
           let used_is : c.used_after-self-inside.result
           ≡ (d.used + (get_or d.flights.items id no_flight).places) % 65536 =
-          after ∙ one_place d.form.kind d.form.in_order d.size d.used flight.places ordered
+          after ∙ one_place d.config.ring d.config.in_order d.config.queue d.used flight.places
+          ordered
           ∙ ap (λ (f : Flight). (d.used + f.places) % 65536) is in
           let P : ℕ → Type 0 = λ u.
-          IsStretch d.size d.offered u d.next (slice_set owners flight.last None)
+          IsStretch d.config.queue d.offered u d.next (slice_set owners flight.last None)
           d.flights.items in
           let Q : ℕ → Type 0 = λ l.
-          IsStretch d.size d.offered ((d.used + (get_or d.flights.items id no_flight).places) %
+          IsStretch d.config.queue d.offered ((d.used + (get_or d.flights.items id
+          no_flight).places) %
           65536) d.next (slice_set owners l None) d.flights.items in
           subst P (sym used_is) (subst Q (sym (ap (λ (f : Flight). f.last) is)) less));
     }
