@@ -1,21 +1,17 @@
 -- What is told of the disk's writes and syncs, and what a serve makes of a machine.
-use Rattle.std.proofs.Common.{◌≡◌, refl, ap, sym, subst, ◌∙◌, ℕ, Bool, List, Some}
+use Rattle.std.proofs.Common.{◌≡◌, refl, ap, subst, ◌∙◌, ℕ, Some}
 use Rattle.machine.proofs.Common.{slice_get, slice_set, Boards, MachineState}
 use Rattle.machine.proofs.Common.{Moves, OutboxMakes, Runs, board_of, outbox_state}
-use Rattle.machine.proofs.Common.{get_set_other, get_set_same, IsServed, moves_none}
+use Rattle.machine.proofs.Common.{get_set_other, IsServed, moves_none}
 use Rattle.machine.proofs.Common.{moves_twice}
 use Rattle.disk.specs.declared.outbox_disk.Told.{Told}
-use Rattle.machine.specs.Ending.{HearsAnswer, left_by}
-use Rattle.machine.specs.Machine.{Completes, IsTold, left_of, telling_board, turn_in}
-use Rattle.machine.specs.Machine.{turn_of}
-use Rattle.machine.specs.declared.machine.Served.{Served}
-use Rattle.machine.specs.declared.serving.Next.{Next}
-use Rattle.machine.proofs.Told.{left_told}
+use Rattle.machine.specs.Ending.{Begins}
+use Rattle.machine.specs.Machine.{Completes, telling_board}
 use Rattle.machine.specs.Serving.{Hears}
 use Rattle.machine.specs.Turn.{Stand, TurnState, stand_of}
-use Rattle.machine.proofs.Others.{others_stay}
-use Rattle.machine.proofs.Runs.{runs_moves}
-use Rattle.machine.proofs.Whole.{runs_whole}
+use Rattle.machine.proofs.Others.{begins_stay, others_stay, stays_twice}
+use Rattle.machine.proofs.Runs.{begins_moves, runs_moves}
+use Rattle.machine.proofs.Whole.{begins_whole, runs_whole, whole_twice}
 
 pub completes : (told : Told) (m : MachineState) (b' new : Boards)
     → b' ≡ telling_board told m.board → Hears b' new → new.devices ≡ b'.devices
@@ -32,13 +28,20 @@ completes told m b' new is hears devices = record {
   setups = refl;
 }
 
-pub serves : (guest : ℕ) (m : MachineState) (turn turn' : TurnState) (new : Boards) (t : Stand)
-    → slice_get m.turns guest ≡ Some turn → Runs guest (stand_of turn) m.board t new
+pub serves : (guest : ℕ) (m : MachineState) (turn turn' : TurnState) (left t : Stand)
+    (heard new : Boards) → slice_get m.turns guest ≡ Some turn
+    → Begins guest (stand_of turn) m.board left heard → Runs guest left heard t new
     → IsServed guest m (record m { board = new; turns = slice_set m.turns guest turn' })
-serves guest m turn turn' new t its runs = record {
-  moves = runs_moves guest (stand_of turn) t m.board new runs;
-  whole = runs_whole guest (stand_of turn) t m.board new runs;
-  others = others_stay guest (stand_of turn) t m.board new runs;
+serves guest m turn turn' left t heard new its begins runs = record {
+  moves = moves_twice outbox_state OutboxMakes (board_of m.board) (board_of heard) (board_of new)
+      (begins_moves guest (stand_of turn) left m.board heard begins)
+      (runs_moves guest left t heard new runs);
+  whole = whole_twice m.board.rest heard.rest new.rest
+      (begins_whole guest (stand_of turn) left m.board heard begins)
+      (runs_whole guest left t heard new runs);
+  others = stays_twice outbox_state OutboxMakes guest (board_of m.board) (board_of heard)
+      (board_of new) (begins_stay guest (stand_of turn) left m.board heard begins)
+      (others_stay guest left t heard new runs);
   turns = λ k other. get_set_other m.turns guest k turn' other;
   setups = refl;
 }
@@ -64,27 +67,3 @@ pub goes_more : (guest : ℕ) (a b c : Boards)
 goes_more guest a b c moves s runs =
     moves_twice outbox_state OutboxMakes (board_of a) (board_of b) (board_of c) moves
     (runs_moves guest s s b c runs)
-
-pub hears : (guest : ℕ) (m : MachineState) (turn turn' : TurnState) (new : Boards) (there : Bool)
-    (bytes : List ℕ) (now then : Type 0) (n : Next) (s : Served) → IsTold n s → (now → then)
-    → slice_get m.turns guest ≡ Some turn
-    → HearsAnswer guest turn.asked there bytes m.board (left_by (Some n) turn') new now
-    → HearsAnswer guest (turn_of m guest).asked there bytes m.board
-    (left_of s.what s.at s.len (turn_in (slice_get (slice_set m.turns guest turn') guest))) new then
-hears guest m turn turn' new there bytes now then n s says_so says its heard =
-    let end = left_of s.what s.at s.len turn' in
-    let told : HearsAnswer guest turn.asked there bytes m.board end new then = record {
-      heard = heard.heard;
-      ok = heard.ok;
-      takes = heard.takes;
-      full = λ no. says (heard.full no);
-      left = heard.left;
-      runs = subst (λ u. Runs guest heard.left heard.heard u new) (left_told n s turn' says_so)
-          heard.runs;
-    } in
-    subst (λ o. HearsAnswer guest (turn_in o).asked there bytes m.board
-    (left_of s.what s.at s.len (turn_in (slice_get (slice_set m.turns guest turn') guest))) new then)
-    (sym its)
-    (subst (λ o. HearsAnswer guest turn.asked there bytes m.board
-    (left_of s.what s.at s.len (turn_in o)) new then)
-    (sym (get_set_same m.turns guest turn turn' its)) told)

@@ -1,25 +1,30 @@
 -- One move of a serve after another.
 use Rattle.std.proofs.Common.{◌≡◌, inl, inr, refl, ap, sym, subst, ◌∙◌, ℕ, Bool, true, false}
-use Rattle.std.proofs.Common.{List, [], Option, Some, None, Ok, Err, length}
+use Rattle.std.proofs.Common.{[], Option, Some, None, Ok, Err, length}
 use Rattle.std.proofs.Common.{IfSome, arith}
 use Rattle.std.specs.Prelude.{nat_le, nat_lt}
 use Rattle.board.proofs.Common.{nat_tests}
 use Rattle.guest_memory.specs.declared.ask.Ask.{Ask}
-use Rattle.flusher.specs.Store.{next_call}
 use Rattle.chains.specs.Needs.{OfArea}
 use Rattle.mmio_transport.specs.Asking.{Asks, Notifies, NotifiesOf, NotifiesWhere, PopNeeds}
 use Rattle.mmio_transport.specs.Queue.{QueueState}
 use Rattle.board.specs.Asking.{ForPop}
 use Rattle.board.specs.State.{in_place}
-use Rattle.machine.proofs.Common.{slice_get, AskingState, Boards, MachineFault, Range, Runs}
-use Rattle.machine.specs.Ending.{FindsNone, GoesOnFor, HasEnded, HasSeenAll, IsHandedOn}
-use Rattle.machine.specs.Ending.{NeedsNext, NotifiesNext, RestsAt, SawAll, Went, left_by}
-use Rattle.machine.specs.Serving.{HasNoReply, KeepsLimit, KeepsWaiting, SameDevices, is_write}
+use Rattle.machine.proofs.Common.{slice_get, AskingState, Boards, MachineFault, Runs}
+use Rattle.machine.specs.Ending.{EndsFor, FindsNone, GoesOnFor, HasEnded, HasReason, IsSettled}
+use Rattle.machine.specs.Ending.{IsTaken}
+use Rattle.machine.specs.declared.taking.Taken.{Taken}
+use Rattle.machine.specs.declared.taking.Taken.TheVariants as taken
+use Rattle.machine.specs.Ending.{Lacks, Looks, NeedsNext, NotifiesNext, Refuses, RestsAt, SawAll}
+use Rattle.machine.specs.Ending.{Went, left_by}
+use Rattle.machine.specs.declared.fault.MachineFault.TheVariants as fault
+use Rattle.machine.specs.Serving.{HasStopped, KeepsLimit, KeepsWaiting, SameDevices}
+use Rattle.machine.specs.Serving.{standing}
 use Rattle.machine.specs.Turn.{Stand, TurnState, stand_of}
 use Rattle.machine.specs.declared.serving.Next.{Next}
 use Rattle.machine.specs.declared.serving.Next.TheVariants as next
 use Rattle.machine.proofs.Limits.{limit_twice}
-use Rattle.machine.proofs.Runs.{runs_twice, then_does}
+use Rattle.machine.proofs.Runs.{runs_twice, then_does, then_many}
 
 -- 1. Whether the driver is to be notified
 
@@ -75,24 +80,150 @@ module _ (a a' : AskingState) where
 
 -- 2. Moves
 
+pub then_stopped : (guest : ℕ) (s t u : Stand) (a b c : Boards) → Runs guest s a t b
+    → HasStopped guest t b u c → HasStopped guest s a u c
+then_stopped guest s t u a b c first stopped = record {
+  before = stopped.before;
+  parts = stopped.parts;
+  going = stopped.going;
+  runs = runs_twice guest s t (standing stopped.parts stopped.going) a b stopped.before first
+      stopped.runs;
+  went_on = stopped.went_on;
+  why = stopped.why;
+  refuses = stopped.refuses;
+  left = stopped.left;
+}
+
+-- a reason is one, too, with some steps more before it or behind it
+module _ (guest : ℕ) where
+  then_looks : (s t v : Stand) (a b d : Boards) → Runs guest s a t b → Looks guest t b v d
+      → Looks guest s a v d
+  then_looks s t v a b d first looks = record {
+    before = looks.before;
+    first = runs_twice guest s t (standing [] true) a b looks.before first looks.first;
+    parts = looks.parts;
+    after = looks.after;
+    pops = looks.pops;
+    behind = looks.behind;
+    rest = looks.rest;
+  }
+
+  looks_then : (s t v : Stand) (a b d : Boards) → Looks guest s a t b → Runs guest t b v d
+      → Looks guest s a v d
+  looks_then s t v a b d looks more = record {
+    before = looks.before;
+    first = looks.first;
+    parts = looks.parts;
+    after = looks.after;
+    pops = looks.pops;
+    behind = looks.behind;
+    rest = runs_twice guest looks.behind t v looks.after b d looks.rest more;
+  }
+
+module _ (guest : ℕ) (f : MachineFault) where
+  pub then_reason : (s t v : Stand) (a b d : Boards) → Runs guest s a t b
+      → HasReason guest f t b v d → HasReason guest f s a v d
+  then_reason s t v a b d first (Refuses w u x y step e before takes makes is after) =
+      Refuses w u x y step e (runs_twice guest s t w a b x first before) takes makes is after
+  then_reason s t v a b d first (Lacks is) = Lacks is
+
+  pub reason_then : (s t v : Stand) (a b d : Boards) → HasReason guest f s a t b
+      → Runs guest t b v d → HasReason guest f s a v d
+  reason_then s t v a b d (Refuses w u x y step e before takes makes is after) more =
+      Refuses w u x y step e before takes makes is (runs_twice guest u t v y b d after more)
+  reason_then s t v a b d (Lacks is) more = Lacks is
+
+  pub ends_after : (s t : Stand) (a b : Boards) (u : TurnState) (c : Boards) → Runs guest s a t b
+      → EndsFor guest f t b u c → EndsFor guest f s a u c
+  ends_after s t a b u c runs ends = record {
+    reason = then_reason s t (stand_of u) a b c runs ends.reason;
+    settled = ends.settled;
+  }
+
+  -- memory was refused
+  pub lacks : (s : Stand) (a : Boards) (u : TurnState) (c : Boards) → f ≡ fault.NoMemory
+      → EndsFor guest f s a u c
+  lacks s a u c is = record { reason = Lacks is; settled = λ other. absurd (other is) }
+
 module _ (guest most : ℕ) where
   -- with some steps more before them
   pub busy_after : (s t : Stand) (a b c : Boards) (u : TurnState) (n : Option Next)
       → Runs guest s a t b → GoesOnFor guest t b u c n → GoesOnFor guest s a u c n
   busy_after s t a b c u None runs does = then_does guest s t (stand_of u) a b c runs does
   busy_after s t a b c u (Some next.Again) runs (inl does) =
-      inl (then_does guest s t (stand_of u) a b c runs does)
-  busy_after s t a b c u (Some next.Again) runs (inr waits) = inr waits
+      inl (then_many guest 16 s t (stand_of u) a b c runs does)
+  busy_after s t a b c u (Some next.Again) runs (inr (inl waits)) = inr (inl waits)
+  busy_after s t a b c u (Some next.Again) runs (inr (inr stopped)) =
+      inr (inr (then_stopped guest s t (stand_of u) a b c runs stopped))
   busy_after s t a b c u (Some (next.Read ask)) runs busy = tt
   busy_after s t a b c u (Some (next.Write part)) runs busy = tt
   busy_after s t a b c u (Some next.Call) runs busy = tt
   busy_after s t a b c u (Some (next.Rest f)) runs busy = tt
 
-  pub went_after : (t0 t1 t2 : TurnState) (a b c : Boards) (n : Option Next)
+  pub needs_after : (s t : Stand) (a b : Boards) (u : TurnState) (c : Boards) (n : Option Next)
+      → Runs guest s a t b → NeedsNext guest most t b u c n → NeedsNext guest most s a u c n
+  needs_after s t a b u c None runs needs = tt
+  needs_after s t a b u c (Some next.Again) runs needs = tt
+  needs_after s t a b u c (Some (next.Read ask)) runs needs = needs
+  needs_after s t a b u c (Some (next.Write part)) runs needs = tt
+  needs_after s t a b u c (Some next.Call) runs needs = tt
+  needs_after s t a b u c (Some (next.Rest None)) runs needs = (
+    record {
+      jobs = needs.0.jobs;
+      taken = elim needs.0.taken [
+        | inl found ↦ inl
+            (found.0, then_looks guest s t (stand_of u) a b c runs found.1)
+        | inr full ↦ inr full
+      ];
+      settled = needs.0.settled;
+    },
+    needs.1,
+  )
+  needs_after s t a b u c (Some (next.Rest (Some f))) runs needs = ends_after guest f s t a b u c
+      runs needs
+
+  -- where what is left to be copied out is as it was
+  pub needs_same : (s : Stand) (a : Boards) (u w : TurnState) (c : Boards) (n : Option Next)
+      → stand_of w ≡ stand_of u → NeedsNext guest most s a u c n → NeedsNext guest most s a w c n
+  needs_same s a u w c None same needs = tt
+  needs_same s a u w c (Some next.Again) same needs = tt
+  needs_same s a u w c (Some (next.Read ask)) same needs = needs
+  needs_same s a u w c (Some (next.Write part)) same needs = tt
+  needs_same s a u w c (Some next.Call) same needs = tt
+  needs_same s a u w c (Some (next.Rest None)) same needs = (
+    subst (λ v. RestsAt guest most s a v c) (sym same) needs.0,
+    ap (λ v. v.parts) same ∙ needs.1,
+  )
+  needs_same s a u w c (Some (next.Rest (Some f))) same needs = record {
+    reason = subst (λ v. HasReason guest f s a v c) (sym same) needs.reason;
+    settled = λ other. (let is = needs.settled other in (is.0, ap (λ v. v.parts) same ∙ is.1));
+  }
+
+  -- and what became of the next chain
+  pub taken_after : (s t : Stand) (a b : Boards) (u : TurnState) (c : Boards) (k : Taken)
+      → Runs guest s a t b → IsTaken guest most t b u c k → IsTaken guest most s a u c k
+  taken_after s t a b u c (taken.Asks ask) runs is = is
+  taken_after s t a b u c taken.Did runs is = tt
+  taken_after s t a b u c taken.Nothing runs is = (
+    (
+      is.0.0,
+      elim is.0.1 [
+        | inl found ↦ inl
+            (found.0, then_looks guest s t (stand_of u) a b c runs found.1)
+        | inr full ↦ inr full
+      ],
+    ),
+    is.1,
+  )
+  taken_after s t a b u c (taken.Refused f) runs is =
+      (then_reason guest f s t (stand_of u) a b c runs is.0, is.1)
+
+  -- the serve began before these steps, or with them
+  pub went_on : (s : Stand) (z : Boards) (t0 t1 t2 : TurnState) (a b c : Boards) (n : Option Next)
       → Runs guest (stand_of t0) a (stand_of t1) b → length b.devices ≡ length a.devices
-      → t1.asked ≡ t0.asked → KeepsLimit guest most a.rest b.rest → Went guest most t1 t2 b c n
-      → Went guest most t0 t2 a c n
-  went_after t0 t1 t2 a b c n runs count asked limit went = record {
+      → t1.asked ≡ t0.asked → KeepsLimit guest most a.rest b.rest
+      → Went guest most s z t1 t2 b c n → Went guest most s z t0 t2 a c n
+  went_on s z t0 t1 t2 a b c n runs count asked limit went = record {
     runs = runs_twice guest (stand_of t0) (stand_of t1) (left_by n t2) a b c runs went.runs;
     needs = went.needs;
     busy = busy_after (stand_of t0) (stand_of t1) a b c t2 n runs went.busy;
@@ -101,12 +232,26 @@ module _ (guest most : ℕ) where
     asked = went.asked ∙ asked;
   }
 
-  pub went_by : (t t' : TurnState) (a b : Boards) (n : Option Next)
-      → Runs guest (stand_of t) a (left_by n t') b → NeedsNext guest most t'.parts b n
+  pub went_after : (t0 t1 t2 : TurnState) (a b c : Boards) (n : Option Next)
+      → Runs guest (stand_of t0) a (stand_of t1) b → length b.devices ≡ length a.devices
+      → t1.asked ≡ t0.asked → KeepsLimit guest most a.rest b.rest
+      → Went guest most (stand_of t1) b t1 t2 b c n → Went guest most (stand_of t0) a t0 t2 a c n
+  went_after t0 t1 t2 a b c n runs count asked limit went =
+      went_on (stand_of t0) a t0 t1 t2 a b c n runs count asked limit (record {
+        runs = went.runs;
+        needs = needs_after (stand_of t0) (stand_of t1) a b t2 c n runs went.needs;
+        busy = went.busy;
+        limit = went.limit;
+        count = went.count;
+        asked = went.asked;
+      })
+
+  pub went_by : (s : Stand) (z : Boards) (t t' : TurnState) (a b : Boards) (n : Option Next)
+      → Runs guest (stand_of t) a (left_by n t') b → NeedsNext guest most s z t' b n
       → GoesOnFor guest (stand_of t) a t' b n
       → length b.devices ≡ length a.devices → t'.asked ≡ t.asked
-      → KeepsLimit guest most a.rest b.rest → Went guest most t t' a b n
-  went_by t t' a b n runs needs busy count asked limit = record {
+      → KeepsLimit guest most a.rest b.rest → Went guest most s z t t' a b n
+  went_by s z t t' a b n runs needs busy count asked limit = record {
     runs = runs;
     needs = needs;
     busy = busy;
@@ -125,48 +270,35 @@ module _ (guest most : ℕ) where
     none = found.none;
   }
 
-  pub ended_same : (a b : Boards) (f : Option MachineFault) → SameDevices a b
-      → KeepsWaiting guest a.rest b.rest → HasEnded guest most a f → HasEnded guest most b f
-  ended_same a b None same keeps ended = (
+  pub ended_on : (s u v : Stand) (z a b : Boards) (f : Option MachineFault) → Runs guest u a v b
+      → SameDevices a b → KeepsWaiting guest a.rest b.rest → HasEnded guest most s z u a f
+      → HasEnded guest most s z v b f
+  ended_on s u v z a b None runs same keeps ended = (
     ap (λ js. in_place (slice_get js guest)) keeps.0 ∙ ended.0,
     elim ended.1 [
-      | inl found ↦ inl (let f = finds_same a b same found in
-          record { device = f.device; its = f.its; before = f.before; none = f.none })
+      | inl found ↦ inl
+          (finds_same a b same found.0, looks_then guest s u v z a b found.1 runs)
       | inr full ↦ inr (ap (λ n. nat_lt n most) keeps.1 ∙ full)
     ],
   )
-  ended_same a b (Some f) same keeps ended = ended
+  ended_on s u v z a b (Some f) runs same keeps ended = reason_then guest f s u v z a b ended runs
 
-  rests_by : (b : Boards)
-      → is_write (next_call b.rest.store.broken b.rest.store.guests) ≡ false
-      → HasEnded guest most b None → IsHandedOn guest b.rest → HasNoReply guest b.rest
-      → HasSeenAll guest b → RestsAt guest most b
-  rests_by b writes ended handed replies seen = record {
-    jobs = ended.0;
-    taken = ended.1;
-    handed = handed;
-    replies = replies;
-    seen = seen;
-    writes = writes;
-  }
+  pub rest_needs : (s : Stand) (z : Boards) (turn : TurnState) (b : Boards)
+      (o : Option MachineFault) → HasEnded guest most s z (stand_of turn) b o → IsSettled guest b
+      → turn.parts ≡ [] → NeedsNext guest most s z turn b (Some (next.Rest o))
+  rest_needs s z turn b None ended settled none =
+      (record { jobs = ended.0; taken = ended.1; settled = settled }, none)
+  rest_needs s z turn b (Some f) ended settled none =
+      record { reason = ended; settled = λ other. (settled, none) }
 
-  pub rest_needs : (ps : List Range) (b : Boards) (o : Option MachineFault)
-      → HasEnded guest most b o → IsHandedOn guest b.rest → HasNoReply guest b.rest
-      → HasSeenAll guest b
-      → is_write (next_call b.rest.store.broken b.rest.store.guests) ≡ false → ps ≡ []
-      → NeedsNext guest most ps b (Some (next.Rest o))
-  rest_needs ps b None ended handed replies seen writes none =
-      (rests_by b writes ended handed replies seen, none)
-  rest_needs ps b (Some f) ended handed replies seen writes none = ended
-
-  pub notified_needs : (ps : List Range) (b : Boards) (o : Option Next) → NotifiesNext guest b o
-      → NeedsNext guest most ps b o
-  notified_needs ps b None needs = tt
-  notified_needs ps b (Some next.Again) needs = tt
-  notified_needs ps b (Some (next.Read ask)) needs = needs
-  notified_needs ps b (Some (next.Write part)) needs = tt
-  notified_needs ps b (Some next.Call) needs = tt
-  notified_needs ps b (Some (next.Rest f)) needs = absurd needs
+  pub notified_needs : (s : Stand) (z : Boards) (t : TurnState) (b : Boards) (o : Option Next)
+      → NotifiesNext guest b o → NeedsNext guest most s z t b o
+  notified_needs s z t b None needs = tt
+  notified_needs s z t b (Some next.Again) needs = tt
+  notified_needs s z t b (Some (next.Read ask)) needs = needs
+  notified_needs s z t b (Some (next.Write part)) needs = tt
+  notified_needs s z t b (Some next.Call) needs = tt
+  notified_needs s z t b (Some (next.Rest f)) needs = absurd needs
 
   pub notified_busy : (s : Stand) (a b : Boards) (t : TurnState) (n : Next)
       → NotifiesNext guest b (Some n) → GoesOnFor guest s a t b (Some n)

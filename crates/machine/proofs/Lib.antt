@@ -3,6 +3,7 @@ pub mod Awaited
 pub mod Completing
 pub mod Ends
 pub mod Formatting
+pub mod Going
 pub mod Goings
 pub mod Handed
 pub mod Limits

@@ -16,7 +16,7 @@ use Rattle.rpmb_book.specs.Book.{BookView, due_at, due_of, guest_of, state, subm
 use Rattle.rpmb_book.specs.ByGuest.{guest_after}
 use Rattle.rpmb_book.specs.Fold.{after_submit, roomy}
 use Rattle.rpmb_book.specs.Guest.{GuestState, Held, collected, first_due, held_when, submitted}
-use Rattle.rpmb_book.specs.Turn.{Turn, Collect}
+use Rattle.rpmb_book.specs.Turn.{Collect}
 use Rattle.board.specs.State.{count_held, count_in, waiting}
 use Rattle.board.specs.declared.step.Step.TheVariants as step
 use Rattle.machine.specs.Ending.{TakesAnswer, Full, Outside, Short, Told}

@@ -9,7 +9,7 @@ use Rattle.board.proofs.Doing.{set_same}
 use Rattle.machine.specs.Ending.{TellsIn}
 use Rattle.machine.specs.Serving.{Learns, QueuesStay, SameDevices, Tells}
 use Rattle.machine.proofs.Common.{Still}
-use Rattle.std.specs.Prelude.{Result, Ok, Err, OnOk, OnErr}
+use Rattle.std.specs.Prelude.{All, Result, Ok, Err, OnOk, OnErr}
 use Rattle.machine.proofs.Runs.{runs_knows}
 
 -- the board with another device of a guest
@@ -43,13 +43,14 @@ module _ (guest : ℕ) (b : Boards) (d d' : AskingState)
       (ap (slice_set b.devices guest) same ∙ set_same b.devices guest d its)
 
   -- bytes were told, or there was no memory for them
-  pub told_runs : {X : Type 0} (ps : List Range) (g : Bool) (at : ℕ) (bytes : List ℕ)
-      (r : Result X MemFault) → OnOk r (d' ≡ after_told d at bytes) → OnErr r (d' ≡ d)
+  pub told_runs : {X : Type 0} (ps : List Range) (g : Bool) (at : ℕ) (zeros : List ℕ)
+      (r : Result X MemFault) → All (λ v. v ≡ 0) zeros → OnOk r (d' ≡ after_told d at zeros)
+      → OnErr r (d' ≡ d)
       → Runs guest (standing ps g) b (standing ps g) (moved b guest d')
-  told_runs ps g at bytes (Ok x) ok err =
+  told_runs ps g at zeros (Ok x) all ok err =
       moved_runs ps g g (λ off on. absurd (let a = off in let b_ = on in cc))
-      (Tells g d d' at bytes ok)
-  told_runs ps g at bytes (Err e) ok err =
+      (Tells g d d' at zeros all ok)
+  told_runs ps g at zeros (Err e) all ok err =
       subst (λ v. Runs guest (standing ps g) b (standing ps g) v) (sym (moved_none err))
       (Still (standing ps g) b)
 

@@ -12,6 +12,7 @@ use Rattle.machine.proofs.Common.{HandsOne, OutboxMakes, OutboxState, outbox_sta
 use Rattle.machine.proofs.Common.{with_devices, get_set_other, OthersStay}
 use Rattle.board.specs.declared.step.Step.TheVariants as step
 use Rattle.board.proofs.AskingSteps.{device_in, map-set}
+use Rattle.machine.specs.Ending.{Begins, GoesOn, Stops, Tells}
 
 -- something is put into one place
 put_other : {X : Type 0} (places : List (Option X)) (g k : ℕ) (o : Option X) → k ≢ g
@@ -29,7 +30,7 @@ module _ {D : Type 0} (shows : D → DiskState) (makes : D → DiskCall → D �
         intents = λ k other. refl;
       })
 
-  stays_twice : (a b c : BoardState D) → OthersStay g a b → OthersStay g b c → OthersStay g a c
+  pub stays_twice : (a b c : BoardState D) → OthersStay g a b → OthersStay g b c → OthersStay g a c
   stays_twice a b c p q = record {
     devices = λ k other. q.devices k other ∙ p.devices k other;
     jobs = λ k other. q.jobs k other ∙ p.jobs k other;
@@ -207,6 +208,13 @@ module _ (guest : ℕ) where
       stays_twice outbox_state OutboxMakes guest (board_of x) (board_of y) (board_of z)
       (others_stay q (standing r true) x y runs)
       (device_stays y z notified.device' notified.after)
-  others_stay s t a b (Voids q r g x y z runs refuses) =
+  others_stay s t a b (Voids q r g x y z runs why refuses) =
       stays_twice outbox_state OutboxMakes guest (board_of x) (board_of y) (board_of z)
       (others_stay q (standing r g) x y runs) (device_stays y z _ refuses.after)
+
+  pub begins_stay : (s t : Stand) (a b : Boards) → Begins guest s a t b
+      → OthersStay guest (board_of a) (board_of b)
+  begins_stay s t a b (GoesOn same left) =
+      stays_same outbox_state OutboxMakes guest (board_of a) (board_of b) (ap board_of same)
+  begins_stay s t a b (Tells at bytes tells left) = device_stays a b _ tells.after
+  begins_stay s t a b (Stops refuses left) = device_stays a b _ refuses.after

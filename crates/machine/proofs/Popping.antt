@@ -1,5 +1,5 @@
 -- What a pop of the guest's device comes to.
-use Rattle.std.proofs.Common.{◌≡◌, ◌≢◌, ◌<◌, ◌⊎◌, inl, ap, sym, subst, ◌∙◌, ℕ, Bool, true, false}
+use Rattle.std.proofs.Common.{◌≡◌, ◌<◌, ◌⊎◌, inl, ap, sym, subst, ◌∙◌, ℕ, Bool, true, false}
 use Rattle.std.proofs.Common.{List, [], ◌∷◌, ◌++◌, Option, Some, None, Result, Ok, Err, length}
 use Rattle.std.proofs.Common.{get_or}
 use Rattle.std.proofs.Common.{arith, IfSome}

@@ -1,5 +1,5 @@
 -- What serves a guest, one part after another.
-use Rattle.std.proofs.Common.{◌≡◌, ap, sym, subst, ◌∙◌, ℕ, Bool, true, false, List, [], Ok}
+use Rattle.std.proofs.Common.{◌≡◌, ap, sym, subst, ◌∙◌, ℕ, Bool, true, false, List, []}
 use Rattle.machine.proofs.Common.{slice_set, OutboxMakes, OutboxState, outbox_state}
 use Rattle.machine.proofs.Common.{AskingState, BoardState, board_of, with_devices, Moves}
 use Rattle.machine.proofs.Common.{moves_none}
@@ -8,7 +8,9 @@ use Rattle.machine.proofs.Common.{Hands}
 use Rattle.machine.proofs.Common.{IsShare, Knows, LearnsOf, Makes, Pops, Runs}
 use Rattle.machine.proofs.Common.{Still, Then, Voids, GivesUp, Stand, standing}
 use Rattle.board.proofs.AskingSteps.{device_in, map-set}
-use Rattle.machine.specs.Serving.{ByPop, ByReply, ByStep, ByStop, DoesSome, IsDone}
+use Rattle.machine.specs.Serving.{ByPop, ByReply, ByStep, DoesMany, DoesMore, DoesNone, DoesSome}
+use Rattle.machine.specs.Serving.{IsDone}
+use Rattle.machine.specs.Ending.{Begins, GoesOn, Stops, Tells}
 
 module _ (guest : ℕ) where
   pub runs_twice : (s t u : Stand) (a b c : Boards) → Runs guest s a t b → Runs guest t b u c
@@ -26,8 +28,8 @@ module _ (guest : ℕ) where
       GivesUp s r g a y (runs_twice s q (standing r g) a x y p runs)
   runs_twice s t u a b c p (Calls q r x y z runs notified) =
       Calls s r a y z (runs_twice s q (standing r true) a x y p runs) notified
-  runs_twice s t u a b c p (Voids q r g x y z runs refuses) =
-      Voids s r g a y z (runs_twice s q (standing r g) a x y p runs) refuses
+  runs_twice s t u a b c p (Voids q r g x y z runs why refuses) =
+      Voids s r g a y z (runs_twice s q (standing r g) a x y p runs) why refuses
 
   -- a step that no device makes
   pub runs_step : (s : Stand) (a b : Boards) (x : Step) (answer : Answer) → IsShare guest x a
@@ -57,8 +59,6 @@ module _ (guest : ℕ) where
       (runs_twice (standing qs false) t u z b c after more)
   does_then s t u a b c (ByReply r w qs x y z d before hands after) more =
       ByReply s u qs a y z c before hands (runs_twice (standing qs false) t u z b c after more)
-  does_then s t u a b c (ByStop r w qs g x y z d before refuses after) more =
-      ByStop s u qs g a y z c before refuses (runs_twice (standing [] g) t u z b c after more)
 
   pub then_does : (s t u : Stand) (a b c : Boards) → Runs guest s a t b → DoesSome guest t b u c
       → DoesSome guest s a u c
@@ -69,14 +69,20 @@ module _ (guest : ℕ) where
       after
   then_does s t u a b c first (ByReply r w qs x y z d before hands after) =
       ByReply s u qs a y z c (runs_twice s t (standing [] true) a b y first before) hands after
-  then_does s t u a b c first (ByStop r w qs g x y z d before refuses after) =
-      ByStop s u qs g a y z c (runs_twice s t (standing qs g) a b y first before) refuses after
 
   -- a step that no device makes, and that did what it is for
   pub does_step : (s : Stand) (a b : Boards) (x : Step) (answer : Answer) → IsShare guest x a
       → Makes x answer a b → IsDone x answer → DoesSome guest s a s b
   does_step s a b x answer share makes some =
       ByStep s s s a a b b x answer (Still s a) share makes some (Still s b)
+
+  -- so much was done, behind some steps more
+  pub then_many : (n : ℕ) (s t u : Stand) (a b c : Boards) → Runs guest s a t b
+      → DoesMany guest n t b u c → DoesMany guest n s a u c
+  then_many n s t u a b c first (DoesNone k v w x y none runs) =
+      DoesNone n s u a c none (runs_twice s t u a b c first runs)
+  then_many n s t u a b c first (DoesMore k m v w x y z d more many some) =
+      DoesMore n m s w u a z c more (then_many m s t w a b z first many) some
 
   -- 2. All of it moves a board
 
@@ -113,6 +119,14 @@ module _ (guest : ℕ) where
       moves_twice outbox_state OutboxMakes (board_of x) (board_of y) (board_of z)
       (runs_moves q (standing r true) x y runs)
       (device_moves y z notified.device' notified.after)
-  runs_moves s t a b (Voids q r g x y z runs refuses) =
+  runs_moves s t a b (Voids q r g x y z runs why refuses) =
       moves_twice outbox_state OutboxMakes (board_of x) (board_of y) (board_of z)
       (runs_moves q (standing r g) x y runs) (device_moves y z _ refuses.after)
+
+  pub begins_moves : (s t : Stand) (a b : Boards) → Begins guest s a t b
+      → Moves outbox_state OutboxMakes (board_of a) (board_of b)
+  begins_moves s t a b (GoesOn same left) =
+      subst (λ x. Moves outbox_state OutboxMakes (board_of a) (board_of x)) (sym same)
+      (moves_none outbox_state OutboxMakes (board_of a))
+  begins_moves s t a b (Tells at bytes tells left) = device_moves a b _ tells.after
+  begins_moves s t a b (Stops refuses left) = device_moves a b _ refuses.after

@@ -1,6 +1,6 @@
 -- What a monitor is asked for.
 use Rattle.std.proofs.Common.{◌≡◌, ◌≤◌, ◌<◌, refl, ap, sym, subst, ◌∙◌, ℕ, Bool, true, false, List}
-use Rattle.std.proofs.Common.{Some, None, Option, IfSome, length}
+use Rattle.std.proofs.Common.{Some, None, Option, IfSome, length, arith}
 use Rattle.std.proofs.lemmas.Option.{slice_get_past}
 use Rattle.std.specs.Prelude.{take}
 use Rattle.guest_memory.specs.Memory.{bytes_at}
@@ -8,15 +8,16 @@ use Rattle.guest_memory.specs.declared.ask.Ask.{Ask}
 use Rattle.machine.proofs.Common.{◌&&◌, slice_get, slice_set, is_some, get_set_same, AskingState}
 use Rattle.machine.proofs.Common.{Boards, MachineState, Range, Runs}
 use Rattle.board.specs.State.{owes}
-use Rattle.machine.specs.Ending.{HasReason, IsBusy, NeedsNext, NeedsTold, left_by}
-use Rattle.machine.specs.Machine.{IsTold, LimitIn, NeedsOf, NoRoom, NoSuchGuest, OfBoard, ReadsOf}
+use Rattle.machine.specs.Ending.{Begins, EndsFor, GoesOn, HearsAnswer, IsBusy, NeedsNext}
+use Rattle.machine.specs.Ending.{NeedsTold, TakesAnswer, left_by}
+use Rattle.machine.specs.Machine.{IsTold, LimitIn, NeedsOf, NoRoom, NoSuchGuest, OfSteps, ReadsOf}
 use Rattle.machine.specs.Machine.{RestsIn}
 use Rattle.machine.specs.Machine.{TellsOf, has_guest, is_over, left_of, turn_in, turn_of}
 use Rattle.machine.specs.Machine.{waits_for_sync}
 use Rattle.machine.specs.declared.fault.MachineFault.TheVariants as fault
 use Rattle.machine.specs.Serving.{KeepsLimit}
 use Rattle.machine.specs.Settings.{most_of}
-use Rattle.machine.specs.Turn.{TurnState, stand_of}
+use Rattle.machine.specs.Turn.{Stand, TurnState, stand_of}
 use Rattle.machine.proofs.Limits.{limit_same}
 use Rattle.machine.proofs.Runs.{still_same}
 use Rattle.machine.specs.declared.machine.Served.{Served}
@@ -26,14 +27,15 @@ use Rattle.machine.specs.declared.serving.Next.TheVariants as next
 use Rattle.machine.specs.declared.settings.Setup.{Setup}
 use Rattle.machine.specs.declared.turn.Asked.TheVariants as asked
 
-module _ (guest most : ℕ) (turn : TurnState) (bytes : List ℕ) (new : Boards) where
+module _ (guest most : ℕ) (from : Stand) (old : Boards) (turn : TurnState) (bytes : List ℕ)
+    (new : Boards) where
   -- what is needed was asked for
-  pub told_of : (n : Next) → NeedsNext guest most turn.parts new (Some n)
+  pub told_of : (n : Next) → NeedsNext guest most from old turn new (Some n)
       → ((ask : Ask) → n ≡ next.Read ask → (ask.len ≤ 16384) × (turn.asked ≡ asked.Read ask))
       → ((part : Range) → n ≡ next.Write part → (turn.asked ≡ asked.Write)
       × IfSome (slice_get new.devices guest) (λ d.
       take part.len bytes ≡ bytes_at d.device.memory part.at part.len))
-      → NeedsTold guest most turn bytes new n
+      → NeedsTold guest most from old turn bytes new n
   told_of next.Again needs read write = tt
   told_of (next.Read ask) needs read write =
       let r = read ask refl in (needs, r.0, r.1)
@@ -44,24 +46,23 @@ module _ (guest most : ℕ) (turn : TurnState) (bytes : List ℕ) (new : Boards)
   told_of (next.Rest (Some f)) needs read write = needs
 
 -- as the machine tells it
-module _ (guest room : ℕ) (old new : MachineState) (w : Setup) (bytes : List ℕ)
-    (setup : slice_get old.setups guest ≡ Some w) where
+module _ (guest room : ℕ) (old new : MachineState) (w : Setup) (bytes : List ℕ) (left : Stand)
+    (heard : Boards) (setup : slice_get old.setups guest ≡ Some w) where
   abbrev Busy : Type 0
-  Busy = IsBusy guest (stand_of (turn_of old guest)) old.board (stand_of (turn_of new guest))
-      new.board
+  Busy = IsBusy guest left heard (stand_of (turn_of new guest)) new.board
 
   pub needs_of : (n : Next) (s : Served) → IsTold n s
-      → NeedsTold guest (most_of w) (turn_of new guest) bytes new.board n
-      → (n ≡ next.Again → Busy) → NeedsOf guest room s.what s bytes old new
+      → NeedsTold guest (most_of w) left heard (turn_of new guest) bytes new.board n
+      → (n ≡ next.Again → Busy) → NeedsOf guest room s.what s bytes left heard old new
   needs_of next.Again s told needs busy =
-      subst (λ x. NeedsOf guest room x s bytes old new) (sym told.0) (busy refl)
+      subst (λ x. NeedsOf guest room x s bytes left heard old new) (sym told.0) (busy refl)
   needs_of (next.Read ask) s told needs busy =
-      subst (λ x. NeedsOf guest room x s bytes old new) (sym told.0)
+      subst (λ x. NeedsOf guest room x s bytes left heard old new) (sym told.0)
       (subst (λ at. ReadsOf guest at s.len new) (sym told.2)
       (subst (λ len. ReadsOf guest ask.at len new) (sym told.3)
       (record { asks = needs.0; few = needs.1; noted = needs.2 })))
   needs_of (next.Write part) s told needs busy =
-      subst (λ x. NeedsOf guest room x s bytes old new) (sym told.0)
+      subst (λ x. NeedsOf guest room x s bytes left heard old new) (sym told.0)
       (record {
         bytes_are = subst (λ at. IfSome (slice_get new.board.devices guest) (λ d.
             take s.len bytes ≡ bytes_at d.device.memory at s.len)) (sym told.2)
@@ -70,16 +71,16 @@ module _ (guest room : ℕ) (old new : MachineState) (w : Setup) (bytes : List �
         noted = needs.0;
       })
   needs_of next.Call s told needs busy =
-      subst (λ x. NeedsOf guest room x s bytes old new) (sym told.0) tt
+      subst (λ x. NeedsOf guest room x s bytes left heard old new) (sym told.0) tt
   needs_of (next.Rest None) s told needs busy =
-      subst (λ x. NeedsOf guest room x s bytes old new) (sym told.0) (
-        (λ none. subst (λ o. RestsIn guest o new) (sym setup) needs),
+      subst (λ x. NeedsOf guest room x s bytes left heard old new) (sym told.0) (
+        (λ none. subst (λ o. RestsIn guest o left heard new) (sym setup) needs),
         (λ f some. absurd (let no = told.1 in let yes_ = some in cc)),
       )
   needs_of (next.Rest (Some f)) s told needs busy =
-      subst (λ x. NeedsOf guest room x s bytes old new) (sym told.0) (
+      subst (λ x. NeedsOf guest room x s bytes left heard old new) (sym told.0) (
         (λ none. absurd (let no = told.1 in let yes_ = none in cc)),
-        (λ g some. OfBoard (subst (λ x. HasReason guest x)
+        (λ g some. OfSteps (subst (λ x. EndsFor guest x left heard (turn_of new guest) new.board)
             (let a = told.1 in let b = some in cc) needs)),
       )
 
@@ -128,17 +129,23 @@ module _ (m : MachineState) (guest : ℕ) where
   no_more (Some w) = limit_same guest (most_of w) m.board.rest m.board.rest refl
 
   -- a guest that there isn't is refused
-  pub tells_absent : (room : ℕ) (s : Served) (bytes : List ℕ) → has_guest m guest ≡ false
+  pub tells_absent : (there : Bool) (given : List ℕ) (s : Served) (bytes : List ℕ)
+      → has_guest m guest ≡ false
       → IsTold (next.Rest (Some fault.NoGuest)) s
       → s.sync ≡ (is_over s.what && waits_for_sync m.board.rest)
-      → s.waiting ≡ owes guest m.board.rest → TellsOf guest room s bytes m m
-  tells_absent room s bytes absent told sync waiting = record {
+      → s.waiting ≡ owes guest m.board.rest → TellsOf guest there given s bytes m m
+  tells_absent there given s bytes absent told sync waiting = record {
+    heard = m.board;
+    left = stand_of (turn_of m guest);
+    takes = λ has room. absurd (let no = sym absent ∙ has in cc);
+    begins = GoesOn refl refl;
     runs = still_same guest (stand_of (turn_of m guest)) _ m.board
         (sym (left_told (next.Rest (Some fault.NoGuest)) s (turn_of m guest) told));
-    needs = subst (λ x. NeedsOf guest room x s bytes m m) (sym told.0) (
-      (λ none. absurd (let no = told.1 in let other = none in cc)),
-      (λ f some. NoSuchGuest (let a = told.1 in let b = some in cc) absent refl),
-    );
+    needs = subst (λ x. NeedsOf guest (length given) x s bytes (stand_of (turn_of m guest)) m.board
+        m m) (sym told.0) (
+          (λ none. absurd (let no = told.1 in let other = none in cc)),
+          (λ f some. NoSuchGuest (let a = told.1 in let b = some in cc) absent refl),
+        );
     sync = sync;
     waiting = waiting;
     limit = no_more (slice_get m.setups guest);
@@ -146,21 +153,27 @@ module _ (m : MachineState) (guest : ℕ) where
   }
 
   -- there is less room than the largest part has
-  pub tells_room : (room : ℕ) (s : Served) (bytes : List ℕ) → has_guest m guest ≡ true
-      → room < 16384 → IsTold (next.Rest (Some fault.OutOfRange)) s
+  pub tells_room : (there : Bool) (given : List ℕ) (s : Served) (bytes : List ℕ)
+      → has_guest m guest ≡ true → length given < 16384
+      → IsTold (next.Rest (Some fault.OutOfRange)) s
       → s.sync ≡ (is_over s.what && waits_for_sync m.board.rest)
-      → s.waiting ≡ owes guest m.board.rest → TellsOf guest room s bytes m m
-  tells_room room s bytes there short told sync waiting = record {
+      → s.waiting ≡ owes guest m.board.rest → TellsOf guest there given s bytes m m
+  tells_room there given s bytes has short told sync waiting = record {
+    heard = m.board;
+    left = stand_of (turn_of m guest);
+    takes = λ is room. absurd (omega (arith, short, room));
+    begins = GoesOn refl refl;
     runs = still_same guest (stand_of (turn_of m guest)) _ m.board
         (sym (left_told (next.Rest (Some fault.OutOfRange)) s (turn_of m guest) told));
-    needs = subst (λ x. NeedsOf guest room x s bytes m m) (sym told.0) (
-      (λ none. absurd (let no = told.1 in let other = none in cc)),
-      (λ f some. NoRoom (let a = told.1 in let b = some in cc) short refl),
-    );
+    needs = subst (λ x. NeedsOf guest (length given) x s bytes (stand_of (turn_of m guest)) m.board
+        m m) (sym told.0) (
+          (λ none. absurd (let no = told.1 in let other = none in cc)),
+          (λ f some. NoRoom (let a = told.1 in let b = some in cc) short refl),
+        );
     limit = no_more (slice_get m.setups guest);
     sync = sync;
     waiting = waiting;
-    absent = λ gone. absurd (let no = sym there ∙ gone in cc);
+    absent = λ gone. absurd (let no = sym has ∙ gone in cc);
   }
 
   pub has_all : (w : Setup) (turn : TurnState) (d : AskingState) → slice_get m.setups guest ≡ Some w
@@ -172,39 +185,44 @@ module _ (m : MachineState) (guest : ℕ) where
       ∙ ap (λ o. true && is_some o && is_some (slice_get m.board.devices guest)) b
       ∙ ap (λ o. true && true && is_some o) c
 
-  pub tells_of : (room most : ℕ) (w : Setup) (turn turn' : TurnState) (new : Boards)
-      (bytes : List ℕ) (n : Next) (s : Served) → slice_get m.setups guest ≡ Some w
-      → slice_get m.turns guest ≡ Some turn → has_guest m guest ≡ true → most ≡ most_of w
-      → IsTold n s → Runs guest (stand_of turn) m.board (left_by (Some n) turn') new
-      → NeedsTold guest most turn' bytes new n
-      → (n ≡ next.Again → IsBusy guest (stand_of turn) m.board (stand_of turn') new)
+  pub tells_of : (most : ℕ) (w : Setup) (turn turn' : TurnState) (there : Bool)
+      (given : List ℕ) (new : Boards) (bytes : List ℕ) (n : Next) (s : Served)
+      → slice_get m.setups guest ≡ Some w → slice_get m.turns guest ≡ Some turn
+      → has_guest m guest ≡ true → most ≡ most_of w → IsTold n s
+      → HearsAnswer guest most turn.asked there given (stand_of turn) m.board turn' bytes new n
       → KeepsLimit guest most m.board.rest new.rest
       → s.sync ≡ (is_over s.what && waits_for_sync new.rest) → s.waiting ≡ owes guest new.rest
-      → TellsOf guest room s bytes m
+      → TellsOf guest there given s bytes m
       (record m { board = new; turns = slice_set m.turns guest turn' })
-  tells_of room most w turn turn' new bytes n s setup its there limit told runs needs busy capped
-      sync waiting =
+  tells_of most w turn turn' there given new bytes n s setup its has limit told h capped sync
+      waiting =
       let m' : MachineState = record m {
         board = new;
-        turns =
-            slice_set m.turns guest turn';
+        turns = slice_set m.turns guest turn';
       } in
       let set = sym (ap turn_in (get_set_same m.turns guest turn turn' its)) in
+      let was = ap turn_in (sym its) in
       record {
-        runs = subst (λ t. Runs guest (stand_of (turn_of m guest)) m.board
-            (left_of s.what s.at s.len t) new) set
-            (subst (λ o. Runs guest (stand_of (turn_in o)) m.board
-            (left_of s.what s.at s.len turn') new) (sym its)
-            (subst (λ u. Runs guest (stand_of turn) m.board u new) (left_told n s turn' told) runs));
-        needs = needs_of guest room m m' w bytes setup n s told
-            (subst (λ t. NeedsTold guest (most_of w) t bytes new n) set
-            (subst (λ k. NeedsTold guest k turn' bytes new n) limit needs))
-            (λ again. subst (λ t. IsBusy guest (stand_of (turn_of m guest)) m.board (stand_of t) new)
-            set (subst (λ o. IsBusy guest (stand_of (turn_in o)) m.board (stand_of turn') new)
-            (sym its) (busy again)));
+        heard = h.heard;
+        left = h.left;
+        takes = λ is room. record {
+          ok = h.takes.ok;
+          takes = subst (λ (t : TurnState). TakesAnswer guest t.asked there given m.board
+              h.takes.ok h.heard) was h.takes.takes;
+          full = λ no. (subst (λ k. IsTold k s) (h.takes.full no) told).1;
+        };
+        begins = subst (λ (t : TurnState). Begins guest (stand_of t) m.board h.left h.heard) was
+            h.begins;
+        runs = subst (λ t. Runs guest h.left h.heard (left_of s.what s.at s.len t) new) set
+            (subst (λ u. Runs guest h.left h.heard u new) (left_told n s turn' told) h.runs);
+        needs = needs_of guest (length given) m m' w bytes h.left h.heard setup n s told
+            (subst (λ t. NeedsTold guest (most_of w) h.left h.heard t bytes new n) set
+            (subst (λ k. NeedsTold guest k h.left h.heard turn' bytes new n) limit h.needs))
+            (λ again. subst (λ t. IsBusy guest h.left h.heard (stand_of t) new) set
+            (h.busy again));
         limit = subst (λ o. LimitIn guest o m m') (sym setup)
             (subst (λ k. KeepsLimit guest k m.board.rest new.rest) limit capped);
         sync = sync;
         waiting = waiting;
-        absent = λ gone. absurd (let no = sym there ∙ gone in cc);
+        absent = λ gone. absurd (let no = sym has ∙ gone in cc);
       }

@@ -23,6 +23,7 @@ use Rattle.mmio_transport.specs.Device.{DeviceState}
 use Rattle.board.specs.declared.step.Step.TheVariants as step
 use Rattle.board.specs.Steps.{Advances}
 use Rattle.machine.specs.Serving.{FailsNone, MayWrite, is_write}
+use Rattle.machine.specs.Ending.{Begins, GoesOn, Stops, Tells}
 
 whole_same : (a b : BoardState OutboxState) → b.store ≡ a.store → FailsNone a b
 whole_same a b same failed few = (
@@ -170,6 +171,15 @@ module _ (guest : ℕ) where
   runs_whole s t a b (Calls q r x y z runs notified) =
       whole_twice x.rest y.rest z.rest (runs_whole q (standing r true) x y runs)
       (whole_same y.rest z.rest (ap (λ b. b.rest.store) notified.after))
-  runs_whole s t a b (Voids q r g x y z runs refuses) =
+  runs_whole s t a b (Voids q r g x y z runs why refuses) =
       whole_twice x.rest y.rest z.rest (runs_whole q (standing r g) x y runs)
       (whole_same y.rest z.rest (ap (λ b. b.rest.store) refuses.after))
+
+  pub begins_whole : (s t : Stand) (a b : Boards) → Begins guest s a t b
+      → FailsNone a.rest b.rest
+  begins_whole s t a b (GoesOn same left) =
+      whole_same a.rest b.rest (ap (λ x. x.rest.store) same)
+  begins_whole s t a b (Tells at bytes tells left) =
+      whole_same a.rest b.rest (ap (λ x. x.rest.store) tells.after)
+  begins_whole s t a b (Stops refuses left) =
+      whole_same a.rest b.rest (ap (λ x. x.rest.store) refuses.after)

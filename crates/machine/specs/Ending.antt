@@ -2,27 +2,27 @@
 use Rattle.std.specs.Prelude.{◌≡◌, ◌≢◌, ◌⊎◌, ◌≤◌, ℕ, Bool, true, false, nat_lt, List, [], ◌∷◌}
 use Rattle.std.specs.Prelude.{length, Option, Some}
 use Rattle.std.specs.Prelude.{None, Ok, Err, IfSome, map, nat_le, slice_get, slice_set, take, ◌<◌}
-use Rattle.chains.specs.declared.range.Range.{Range}
 use Rattle.disk.specs.Outbox.{has_room}
 use Rattle.disk.specs.OutboxDisk.{OutboxState}
 use Rattle.flusher.specs.Store.{is_free, next_call}
-use Rattle.guest_memory.specs.Memory.{IsAsk, IsInside, bytes_at}
+use Rattle.guest_memory.specs.Memory.{IsInside, bytes_at}
 use Rattle.intent_slots.specs.Payload.{Intent}
 use Rattle.rpmb_book.specs.Book.{next_intent}
 use Rattle.guest_memory.specs.declared.ask.Ask.{Ask}
-use Rattle.mmio_transport.specs.Asking.{AskingState, after_told, known}
+use Rattle.mmio_transport.specs.Asking.{AskingState, after_told}
 use Rattle.mmio_transport.specs.Device.{DeviceState}
 use Rattle.mmio_transport.specs.Popping.{GivesJob}
 use Rattle.mmio_transport.specs.declared.fault.DeviceFault.TheVariants as device_fault
 use Rattle.rpmb_book.specs.declared.refused.Refused.TheVariants as refused
-use Rattle.board.specs.Asking.{ForPop, ForReply}
 use Rattle.board.specs.State.{BoardState, HasNoJob, in_place, waiting}
 use Rattle.board.specs.declared.step.Step.{Step}
 use Rattle.board.specs.declared.step.Step.TheVariants as step
 use Rattle.board.specs.declared.step.StepFault.{StepFault}
 use Rattle.board.specs.declared.step.StepFault.TheVariants as step_fault
-use Rattle.machine.specs.Serving.{Boards, DoesSome, HasNoReply, KeepsLimit, Makes, RefusesIn, Runs}
-use Rattle.machine.specs.Serving.{is_write, standing}
+use Rattle.chains.specs.declared.range.Range.{Range}
+use Rattle.machine.specs.Serving.{AsksIn, Boards, DoesMany, DoesSome, HasNoReply, HasStopped}
+use Rattle.machine.specs.Serving.{KeepsLimit, Makes, PopsOne, RefusesIn, Runs, is_write, standing}
+use Rattle.board.specs.declared.step.Seen.TheVariants.{Nothing}
 use Rattle.machine.specs.declared.fault.MachineFault.{MachineFault}
 use Rattle.machine.specs.declared.fault.MachineFault.TheVariants as fault
 use Rattle.machine.specs.Turn.{Stand, TurnState, stand_of}
@@ -33,22 +33,22 @@ use Rattle.machine.specs.declared.turn.Asked.{Asked}
 use Rattle.machine.specs.declared.turn.Asked.TheVariants as asked
 use Rattle.machine.specs.declared.taking.Taken.TheVariants as taken
 
--- The guest's device has no copy of these bytes of its guest's memory, and needs them: for its next
--- pop, or to see whether its driver is to be notified, which reads an area of its queue as a pop
--- does; or for the publication of the reply in its place.
-pub record AsksIn (guest : ℕ) (ask : Ask) (b : Boards) : Type 0 where
-  pub device : AskingState
-  pub its : slice_get b.devices guest ≡ Some device
-  pub asks : IsAsk (known device) ask
-  pub needed : ForPop device ask
-      ⊎ ForReply (in_place (slice_get b.rest.dones guest)) device ask
-
 -- the last pop of the guest's device found no chain: of what it was told then, none was available
 pub record FindsNone (guest : ℕ) (b : Boards) : Type 0 where
   pub device : DeviceState
   pub its : slice_get (map (λ a. a.device) b.devices) guest ≡ Some device
   pub before : DeviceState
   pub none : GivesJob before (Ok None) device
+
+-- one of these steps was a pop of the guest's device, which found no chain
+pub record Looks (guest : ℕ) (s : Stand) (a : Boards) (v : Stand) (b : Boards) : Type 0 where
+  pub before : Boards
+  pub first : Runs guest s a (standing [] true) before
+  pub parts : List Range
+  pub after : Boards
+  pub pops : PopsOne guest (Ok Nothing) before parts after
+  pub behind : Stand
+  pub rest : Runs guest behind after v b
 
 -- whether the driver is to be notified was seen behind all that its queue used
 abbrev pub SawAll : AskingState → Type 0
@@ -72,17 +72,22 @@ pub record IsHandedOn (guest : ℕ) (b : BoardState OutboxState) : Type 0 where
   pub due : slice_get b.intents guest ≡ Some None → next_intent b.book b.shares guest ≡ None
   pub room : HasRoomForNone b
 
--- A guest rests: no chain of it lies without its answer, and none is available, or as many wait for
--- their answers as may; what was accepted of it is handed on; no reply of it may leave, and whether
--- its driver is to be notified was seen behind all that left; and no write of the disk comes before
--- a sync.
-pub record RestsAt (guest most : ℕ) (b : Boards) : Type 0 where
-  pub jobs : HasNoJob guest b.rest
-  pub taken : FindsNone guest b ⊎ (nat_lt (waiting guest b.rest) most ≡ false)
+-- Of a guest's chains that were answered nothing is left to be done: what was accepted is handed
+-- on; no reply may leave, and whether its driver is to be notified was seen behind all that left;
+-- and no write of the disk comes before a sync.
+pub record IsSettled (guest : ℕ) (b : Boards) : Type 0 where
   pub handed : IsHandedOn guest b.rest
   pub replies : HasNoReply guest b.rest
   pub seen : HasSeenAll guest b
   pub writes : is_write (next_call b.rest.store.broken b.rest.store.guests) ≡ false
+
+-- A guest rests behind these steps: no chain of it lies without its answer, and it was looked, and
+-- none is available, or as many wait for their answers as may; and nothing is left to be done.
+pub record RestsAt (guest most : ℕ) (s : Stand) (a : Boards) (v : Stand) (b : Boards) : Type 0 where
+  pub jobs : HasNoJob guest b.rest
+  pub taken : (FindsNone guest b × Looks guest s a v b)
+      ⊎ (nat_lt (waiting guest b.rest) most ≡ false)
+  pub settled : IsSettled guest b
 
 -- why a step was refused
 abbrev pub reason_of : StepFault → MachineFault
@@ -100,42 +105,55 @@ reason_of (step_fault.Store e) = fault.DiskFault
 abbrev pub Takes : ℕ → Step → Type 0
 Takes guest s = (s ≡ step.Pop guest) ⊎ (s ≡ step.Submit guest)
 
--- A step that takes a chain was refused, and the fault is that step's; or memory was refused for
--- what a step is to copy out, or for what was told.
-pub data HasReason (guest : ℕ) (f : MachineFault) : Type 0 where
-  Refuses : (before after : Boards) (s : Step) (e : StepFault) → Takes guest s
-      → Makes s (Err e) before after → f ≡ reason_of e → HasReason guest f
-  Lacks : f ≡ fault.NoMemory → HasReason guest f
+-- Among the guest's steps from one board to the other one that takes a chain was refused, and the
+-- fault is that step's; or memory was refused for what a step is to copy out, or for what was told.
+pub data HasReason (guest : ℕ) (f : MachineFault) (s : Stand) (a : Boards) (v : Stand) (d : Boards)
+    : Type 0 where
+  Refuses : (t u : Stand) (b c : Boards) (x : Step) (e : StepFault) → Runs guest s a t b
+      → Takes guest x → Makes x (Err e) b c → f ≡ reason_of e → Runs guest u c v d
+      → HasReason guest f s a v d
+  Lacks : f ≡ fault.NoMemory → HasReason guest f s a v d
 
--- No more of the guest's chains is taken: none lies without its answer, and none is available, or
--- as many wait for their answers as may. Or it is for a reason.
-abbrev pub HasEnded : (guest most : ℕ) → Boards → Option MachineFault → Type 0
-HasEnded guest most b None =
-    HasNoJob guest b.rest × (FindsNone guest b ⊎ (nat_lt (waiting guest b.rest) most ≡ false))
-HasEnded guest most b (Some f) = HasReason guest f
+-- No more of the guest's chains is taken, behind these steps: none lies without its answer, and it
+-- was looked, and none is available, or as many wait for their answers as may. Or for a reason.
+abbrev pub HasEnded : (guest most : ℕ) → Stand → Boards → Stand → Boards → Option MachineFault
+    → Type 0
+HasEnded guest most s a v b None =
+    HasNoJob guest b.rest
+    × ((FindsNone guest b × Looks guest s a v b) ⊎ (nat_lt (waiting guest b.rest) most ≡ false))
+HasEnded guest most s a v b (Some f) = HasReason guest f s a v b
 
--- what became of the next chain, on a board where these parts are left to be copied out
-abbrev pub IsTaken : (guest most : ℕ) → List Range → Boards → Taken → Type 0
-IsTaken guest most ps b (taken.Asks ask) = AsksIn guest ask b × (ps ≡ [])
-IsTaken guest most ps b taken.Did = Unit {0}
-IsTaken guest most ps b taken.Nothing = HasEnded guest most b None × (ps ≡ [])
-IsTaken guest most ps b (taken.Refused f) = HasEnded guest most b (Some f) × (ps ≡ [])
+-- what became of the next chain, and of what is to be copied out
+abbrev pub IsTaken : (guest most : ℕ) → Stand → Boards → TurnState → Boards → Taken → Type 0
+IsTaken guest most s a turn b (taken.Asks ask) = AsksIn guest ask b × (turn.parts ≡ [])
+IsTaken guest most s a turn b taken.Did = Unit {0}
+IsTaken guest most s a turn b taken.Nothing =
+    HasEnded guest most s a (stand_of turn) b None × (turn.parts ≡ [])
+IsTaken guest most s a turn b (taken.Refused f) =
+    HasEnded guest most s a (stand_of turn) b (Some f) × (turn.parts ≡ [])
 
 -- something was done, or what a pop wrote that found no chain is to be copied out
 abbrev pub TookSome : ℕ → Stand → Boards → TurnState → Boards → Type 0
 TookSome guest s a turn b = DoesSome guest s a (stand_of turn) b ⊎ (turn.parts ≢ [])
 
--- What is needed next, on a board where these parts are left: the bytes that its device asks for;
--- that a part is copied out, or the driver notified; or nothing, since the guest rests, or for a
--- reason.
-abbrev pub NeedsNext : (guest most : ℕ) → List Range → Boards → Option Next → Type 0
-NeedsNext guest most ps b None = Unit {0}
-NeedsNext guest most ps b (Some next.Again) = Unit {0}
-NeedsNext guest most ps b (Some (next.Read ask)) = AsksIn guest ask b
-NeedsNext guest most ps b (Some (next.Write part)) = Unit {0}
-NeedsNext guest most ps b (Some next.Call) = Unit {0}
-NeedsNext guest most ps b (Some (next.Rest None)) = RestsAt guest most b × (ps ≡ [])
-NeedsNext guest most ps b (Some (next.Rest (Some f))) = HasReason guest f
+-- For a reason no more is taken, and unless that is want of memory nothing else is left to be done.
+pub record EndsFor (guest : ℕ) (f : MachineFault) (s : Stand) (a : Boards) (turn : TurnState)
+    (b : Boards) : Type 0 where
+  pub reason : HasReason guest f s a (stand_of turn) b
+  pub settled : f ≢ fault.NoMemory → IsSettled guest b × (turn.parts ≡ [])
+
+-- What is needed next, behind these steps: the bytes that its device asks for; that a part is
+-- copied out, or the driver notified; or nothing, since the guest rests, or for a reason.
+abbrev pub NeedsNext : (guest most : ℕ) → Stand → Boards → TurnState → Boards → Option Next
+    → Type 0
+NeedsNext guest most s a turn b None = Unit {0}
+NeedsNext guest most s a turn b (Some next.Again) = Unit {0}
+NeedsNext guest most s a turn b (Some (next.Read ask)) = AsksIn guest ask b
+NeedsNext guest most s a turn b (Some (next.Write part)) = Unit {0}
+NeedsNext guest most s a turn b (Some next.Call) = Unit {0}
+NeedsNext guest most s a turn b (Some (next.Rest None)) =
+    RestsAt guest most s a (stand_of turn) b × (turn.parts ≡ [])
+NeedsNext guest most s a turn b (Some (next.Rest (Some f))) = EndsFor guest f s a turn b
 
 -- Where the guest's steps stand behind a move that needs this: the part that is to be copied out
 -- isn't in its memory yet, and of a notification that is due nobody was told.
@@ -162,9 +180,11 @@ pub record AwaitsRoom (b : BoardState OutboxState) : Type 0 where
   pub write : is_write (next_call b.store.broken b.store.guests) ≡ true
   pub full : has_room 16648 b.store.disk.outbox ≡ false
 
--- Why a serve is to be called again: it did something, or a write waits for room.
+-- Why a serve is to be called again: it did 16 things, a write waits for room, or it stopped the
+-- guest's device.
 abbrev pub IsBusy : ℕ → Stand → Boards → Stand → Boards → Type 0
-IsBusy guest s a t b = DoesSome guest s a t b ⊎ AwaitsRoom b.rest
+IsBusy guest s a t b =
+    DoesMany guest 16 s a t b ⊎ (AwaitsRoom b.rest ⊎ HasStopped guest s a t b)
 
 -- Where a move needs nothing it did something; where the serve is to be called again it is busy.
 abbrev pub GoesOnFor : ℕ → Stand → Boards → TurnState → Boards → Option Next → Type 0
@@ -175,11 +195,11 @@ GoesOnFor guest s a turn b (Some (next.Write part)) = Unit {0}
 GoesOnFor guest s a turn b (Some next.Call) = Unit {0}
 GoesOnFor guest s a turn b (Some (next.Rest f)) = Unit {0}
 
--- A move of a serve, and what it needs next.
-pub record Went (guest most : ℕ) (turn turn' : TurnState) (old new : Boards) (n : Option Next)
-    : Type 0 where
+-- A move of a serve that began here, and what it needs next.
+pub record Went (guest most : ℕ) (s : Stand) (a : Boards) (turn turn' : TurnState)
+    (old new : Boards) (n : Option Next) : Type 0 where
   pub runs : Runs guest (stand_of turn) old (left_by n turn') new
-  pub needs : NeedsNext guest most turn'.parts new n
+  pub needs : NeedsNext guest most s a turn' new n
   pub busy : GoesOnFor guest (stand_of turn) old turn' new n
   pub limit : KeepsLimit guest most old.rest new.rest
   pub count : length new.devices ≡ length old.devices
@@ -187,18 +207,19 @@ pub record Went (guest most : ℕ) (turn turn' : TurnState) (old new : Boards) (
 
 -- What the monitor is asked for, with these bytes in what it lent: as what is needed, of which it
 -- is noted that it was asked for; at most 16,384 bytes are read, and those to be written stand first.
-abbrev pub NeedsTold : (guest most : ℕ) → TurnState → List ℕ → Boards → Next → Type 0
-NeedsTold guest most turn bytes new next.Again = Unit {0}
-NeedsTold guest most turn bytes new (next.Read ask) =
+abbrev pub NeedsTold : (guest most : ℕ) → Stand → Boards → TurnState → List ℕ → Boards → Next
+    → Type 0
+NeedsTold guest most s a turn bytes new next.Again = Unit {0}
+NeedsTold guest most s a turn bytes new (next.Read ask) =
     AsksIn guest ask new × (ask.len ≤ 16384) × (turn.asked ≡ asked.Read ask)
-NeedsTold guest most turn bytes new (next.Write part) =
+NeedsTold guest most s a turn bytes new (next.Write part) =
     (turn.asked ≡ asked.Write)
     × IfSome (slice_get new.devices guest) (λ d.
     take part.len bytes ≡ bytes_at d.device.memory part.at part.len)
-NeedsTold guest most turn bytes new next.Call = Unit {0}
-NeedsTold guest most turn bytes new (next.Rest None) =
-    RestsAt guest most new × (turn.parts ≡ [])
-NeedsTold guest most turn bytes new (next.Rest (Some f)) = HasReason guest f
+NeedsTold guest most s a turn bytes new next.Call = Unit {0}
+NeedsTold guest most s a turn bytes new (next.Rest None) =
+    RestsAt guest most s a (stand_of turn) new × (turn.parts ≡ [])
+NeedsTold guest most s a turn bytes new (next.Rest (Some f)) = EndsFor guest f s a turn new
 
 -- The guest's device was told these bytes, and nothing else changed.
 pub record TellsIn (guest at : ℕ) (bytes : List ℕ) (old new : Boards) : Type 0 where
@@ -231,19 +252,35 @@ TakesAnswer guest (asked.Read ask) true bytes old ok new = TakesBytes guest ask 
 TakesAnswer guest (asked.Read ask) false bytes old ok new =
     (ok ≡ true) × RefusesIn guest old new
 
--- The answer was taken first, and the guest's steps came behind it. Where there was no memory for it,
--- that is told.
-pub record HearsAnswer (guest : ℕ) (a : Asked) (there : Bool) (bytes : List ℕ) (old : Boards)
-    (s : Stand) (new : Boards) (told : Type 0) : Type 0 where
-  pub heard : Boards
+-- The answer was taken. Where there was no memory for it, that is told.
+pub record HasHeard (guest : ℕ) (a : Asked) (there : Bool) (bytes : List ℕ) (old heard : Boards)
+    (told : Type 0) : Type 0 where
   pub ok : Bool
   pub takes : TakesAnswer guest a there bytes old ok heard
   pub full : ok ≡ false → told
+
+-- Where the guest's steps begin, behind the answer: its device was told bytes, or where it was
+-- stopped what was left is void.
+pub data Begins (guest : ℕ) (s : Stand) (old : Boards) (left : Stand) (heard : Boards)
+    : Type 0 where
+  GoesOn : heard ≡ old → left ≡ s → Begins guest s old left heard
+  Tells : (at : ℕ) (bytes : List ℕ) → TellsIn guest at bytes old heard → left ≡ s
+      → Begins guest s old left heard
+  Stops : RefusesIn guest old heard → left ≡ standing [] s.going → Begins guest s old left heard
+
+-- The answer was taken first, and the guest's steps came behind it, up to what is needed next.
+pub record HearsAnswer (guest most : ℕ) (a : Asked) (there : Bool) (given : List ℕ) (s : Stand)
+    (old : Boards) (turn : TurnState) (bytes : List ℕ) (new : Boards) (n : Next) : Type 0 where
+  pub heard : Boards
   pub left : Stand
-  pub runs : Runs guest left heard s new
+  pub takes : HasHeard guest a there given old heard (n ≡ next.Rest (Some fault.NoMemory))
+  pub begins : Begins guest s old left heard
+  pub runs : Runs guest left heard (left_by (Some n) turn) new
+  pub needs : NeedsTold guest most left heard turn bytes new n
+  pub busy : n ≡ next.Again → IsBusy guest left heard (stand_of turn) new
 
 -- it was refused, for a reason
-pub record IsRefused (guest : ℕ) (t : Taken) : Type 0 where
+pub record IsRefused (guest : ℕ) (t : Taken) (a b : Boards) : Type 0 where
   pub why : MachineFault
   pub is : t ≡ taken.Refused why
-  pub reason : HasReason guest why
+  pub reason : (s : Stand) → HasReason guest why s a s b

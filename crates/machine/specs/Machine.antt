@@ -25,8 +25,9 @@ use Rattle.board.specs.Asking.{board_of}
 use Rattle.board.specs.State.{BoardState, owes}
 use Rattle.board.specs.Telling.{telling}
 use Rattle.board.specs.Moving.{Moves}
-use Rattle.machine.specs.Ending.{AsksIn, HasReason, IsBusy, RestsAt}
-use Rattle.machine.specs.Serving.{Boards, FailsNone, Hears, KeepsLimit, OthersStay, Runs, standing}
+use Rattle.machine.specs.Ending.{Begins, EndsFor, HasHeard, IsBusy, RestsAt}
+use Rattle.machine.specs.Serving.{AsksIn, Boards, FailsNone, Hears, KeepsLimit, OthersStay, Runs}
+use Rattle.machine.specs.Serving.{standing}
 use Rattle.machine.specs.Settings.{device_after, most_of, value_shown, value_taken}
 use Rattle.machine.specs.Turn.{Stand, TurnState, fresh_turn, stand_of}
 use Rattle.machine.specs.declared.fault.MachineFault.{MachineFault}
@@ -141,28 +142,34 @@ pub record WritesOf (guest at len : ℕ) (bytes : List ℕ) (new : MachineState)
   pub noted : (turn_of new guest).asked ≡ asked.Write
 
 -- the guest rests, by how many of its chains may wait, and nothing of it is to be copied out
-abbrev pub RestsIn : ℕ → Option Setup → MachineState → Type 0
-RestsIn guest None m = ⊥
-RestsIn guest (Some s) m = RestsAt guest (most_of s) m.board × ((turn_of m guest).parts ≡ [])
+abbrev pub RestsIn : ℕ → Option Setup → Stand → Boards → MachineState → Type 0
+RestsIn guest None left heard m = ⊥
+RestsIn guest (Some s) left heard m =
+    RestsAt guest (most_of s) left heard (stand_of (turn_of m guest)) m.board
+    × ((turn_of m guest).parts ≡ [])
 
--- why a serve tells a fault: there is no such guest, or too little room, or a reason of the board
-pub data HasFault (guest room : ℕ) (f : MachineFault) (old new : MachineState) : Type 0 where
+-- Why a serve tells a fault: there is no such guest, or too little room, or a reason in its steps;
+-- unless that is want of memory nothing else is left to be done.
+pub data HasFault (guest room : ℕ) (f : MachineFault) (left : Stand) (heard : Boards)
+    (old new : MachineState) : Type 0 where
   NoSuchGuest : f ≡ fault.NoGuest → has_guest old guest ≡ false → new ≡ old
-      → HasFault guest room f old new
-  NoRoom : f ≡ fault.OutOfRange → room < 16384 → new ≡ old → HasFault guest room f old new
-  OfBoard : HasReason guest f → HasFault guest room f old new
+      → HasFault guest room f left heard old new
+  NoRoom : f ≡ fault.OutOfRange → room < 16384 → new ≡ old
+      → HasFault guest room f left heard old new
+  OfSteps : EndsFor guest f left heard (turn_of new guest) new.board
+      → HasFault guest room f left heard old new
 
--- what it needs next
-abbrev pub NeedsOf : (guest room : ℕ) → What → Served → List ℕ → MachineState → MachineState
-    → Type 0
-NeedsOf guest room what.Rest s bytes old new =
-    (s.fault ≡ None → RestsIn guest (slice_get old.setups guest) new)
-    × ((f : MachineFault) → s.fault ≡ Some f → HasFault guest room f old new)
-NeedsOf guest room what.Read s bytes old new = ReadsOf guest s.at s.len new
-NeedsOf guest room what.Write s bytes old new = WritesOf guest s.at s.len bytes new
-NeedsOf guest room what.Call s bytes old new = Unit {0}
-NeedsOf guest room what.Again s bytes old new =
-    IsBusy guest (stand_of (turn_of old guest)) old.board (stand_of (turn_of new guest)) new.board
+-- what it needs next, behind its steps from this board on
+abbrev pub NeedsOf : (guest room : ℕ) → What → Served → List ℕ → Stand → Boards → MachineState
+    → MachineState → Type 0
+NeedsOf guest room what.Rest s bytes left heard old new =
+    (s.fault ≡ None → RestsIn guest (slice_get old.setups guest) left heard new)
+    × ((f : MachineFault) → s.fault ≡ Some f → HasFault guest room f left heard old new)
+NeedsOf guest room what.Read s bytes left heard old new = ReadsOf guest s.at s.len new
+NeedsOf guest room what.Write s bytes left heard old new = WritesOf guest s.at s.len bytes new
+NeedsOf guest room what.Call s bytes left heard old new = Unit {0}
+NeedsOf guest room what.Again s bytes left heard old new =
+    IsBusy guest left heard (stand_of (turn_of new guest)) new.board
 
 -- Where the guest's steps stand behind a serve that tells this: a part that is to be written isn't in
 -- its memory yet, and comes before all that is left; and its driver is notified where that is told,
@@ -187,12 +194,18 @@ abbrev pub LimitIn : ℕ → Option Setup → MachineState → MachineState → 
 LimitIn guest None old new = Unit {0}
 LimitIn guest (Some s) old new = KeepsLimit guest (most_of s) old.board.rest new.board.rest
 
--- What a serve tells, behind steps of its guest alone; of a sync where it is over.
-pub record TellsOf (guest room : ℕ) (s : Served) (bytes : List ℕ) (old new : MachineState)
-    : Type 0 where
-  pub runs : Runs guest (stand_of (turn_of old guest)) old.board
-      (left_of s.what s.at s.len (turn_of new guest)) new.board
-  pub needs : NeedsOf guest room s.what s bytes old new
+-- What a serve tells, behind steps of its guest alone; of a sync where it is over. First the
+-- monitor's answer to what was asked for last is taken: what was read is what the device believes.
+pub record TellsOf (guest : ℕ) (there : Bool) (given : List ℕ) (s : Served) (bytes : List ℕ)
+    (old new : MachineState) : Type 0 where
+  pub heard : Boards
+  pub left : Stand
+  pub takes : has_guest old guest ≡ true → 16384 ≤ length given
+      → HasHeard guest (turn_of old guest).asked there given old.board heard
+      (s.fault ≡ Some fault.NoMemory)
+  pub begins : Begins guest (stand_of (turn_of old guest)) old.board left heard
+  pub runs : Runs guest left heard (left_of s.what s.at s.len (turn_of new guest)) new.board
+  pub needs : NeedsOf guest (length given) s.what s bytes left heard old new
   pub limit : LimitIn guest (slice_get old.setups guest) old new
   pub sync : s.sync ≡ (is_over s.what && waits_for_sync new.board.rest)
   pub waiting : s.waiting ≡ owes guest new.board.rest

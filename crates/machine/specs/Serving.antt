@@ -1,6 +1,7 @@
 -- What serving a guest does to a board, in steps, and what it leaves of the other guests.
-use Rattle.std.specs.Prelude.{◌≡◌, ◌≢◌, ◌⊎◌, ◌<◌, ◌≤◌, ◌^◌, ◌-◌, ℕ, Bool, List, [], slice_get}
+use Rattle.std.specs.Prelude.{◌≡◌, ◌≢◌, ◌⊎◌, ◌<◌, ◌≤◌, ◌+◌, ◌^◌, ◌-◌, ℕ, Bool, List, [], slice_get}
 use Rattle.std.specs.Prelude.{slice_set, Some, None, Ok, true, false, IfSome, map, length, ◌++◌}
+use Rattle.std.specs.Prelude.{◌∷◌, All}
 use Rattle.chains.specs.declared.range.Range.{Range}
 use Rattle.disk.specs.Outbox.{has_room}
 use Rattle.disk.specs.OutboxDisk.{OutboxMakes, OutboxState, outbox_state}
@@ -11,8 +12,9 @@ use Rattle.mmio_transport.specs.Asking.{AskingState, Notifies, after_told, known
 use Rattle.mmio_transport.specs.Popping.{with_fault}
 use Rattle.mmio_transport.specs.Written.{queue_parts}
 use Rattle.mmio_transport.specs.declared.done.Published.{Published}
-use Rattle.guest_memory.specs.Memory.{kept}
-use Rattle.board.specs.Asking.{AskingBoardState, HandsReply, StepsAsked}
+use Rattle.guest_memory.specs.Memory.{IsAsk, IsHeld, kept}
+use Rattle.guest_memory.specs.declared.ask.Ask.{Ask}
+use Rattle.board.specs.Asking.{AskingBoardState, ForPop, ForReply, HandsReply, StepsAsked}
 use Rattle.board.specs.State.{BoardState, in_place, waiting}
 use Rattle.board.specs.Steps.{Answer}
 use Rattle.board.specs.declared.step.Seen.TheVariants.{Did, Nothing}
@@ -69,12 +71,12 @@ IsShare guest (step.Give g) b = g ≡ guest
 IsShare guest step.Advance b = MayWrite b.rest
 IsShare guest step.Settle b = Unit {0}
 
--- What a device learns of its guest's memory, or does by itself: bytes were told; all copies are
--- forgotten, which begins a step of it; or in such a step, which is over then, it saw that its
--- driver isn't to be notified.
+-- What a device learns of its guest's memory, or does by itself: zeros were told, for what it is to
+-- write; all copies are forgotten, which begins a step of it; or in such a step, which is over then,
+-- it saw that its driver isn't to be notified.
 pub data Learns : Bool → AskingState → Bool → AskingState → Type 0 where
-  Tells : (g : Bool) (a a' : AskingState) (at : ℕ) (bytes : List ℕ) → a' ≡ after_told a at bytes
-      → Learns g a g a'
+  Tells : (g : Bool) (a a' : AskingState) (at : ℕ) (zeros : List ℕ) → All (λ v. v ≡ 0) zeros
+      → a' ≡ after_told a at zeros → Learns g a g a'
   Forgets : (a a' : AskingState) → a' ≡ record a { held = kept (known a) } → Learns false a true a'
   Sees : (a a' : AskingState) → Notifies a (Ok false) a' → Learns true a false a'
 
@@ -106,6 +108,30 @@ pub record RefusesIn (guest : ℕ) (old new : Boards) : Type 0 where
               { registers = with_fault device.device.registers };
         });
       }
+
+-- The guest's device has no copy of these bytes of its guest's memory, and needs them: for its next
+-- pop, or to see whether its driver is to be notified, which reads an area of its queue as a pop
+-- does; or for the publication of the reply in its place.
+pub record AsksIn (guest : ℕ) (ask : Ask) (b : Boards) : Type 0 where
+  pub device : AskingState
+  pub its : slice_get b.devices guest ≡ Some device
+  pub asks : IsAsk (known device) ask
+  pub needed : ForPop device ask
+      ⊎ ForReply (in_place (slice_get b.rest.dones guest)) device ask
+
+-- Why a guest's device is stopped of itself: of the first part that is to be copied out it has no
+-- copy, or more bytes than are copied at once; or it needs more bytes than are told at once.
+pub data CantGoOn (guest : ℕ) (qs : List Range) (b : Boards) : Type 0 where
+  NoCopy : (part : Range) (ps : List Range) → qs ≡ part ∷ ps
+      → (16384 < part.len)
+      ⊎ IfSome (slice_get b.devices guest) (λ d. ¬ IsHeld (known d) part.at part.len)
+      → CantGoOn guest qs b
+  TooMuch : (ask : Ask) → AsksIn guest ask b → 16384 < ask.len → CantGoOn guest qs b
+
+-- it doesn't wait for a reset
+abbrev pub IsGoing : ℕ → Boards → Type 0
+IsGoing guest b = IfSome (slice_get b.devices guest) (λ d.
+    d.device.registers.status.needs_reset ≡ false)
 
 -- The guest's device popped: what it wrote is to be copied out, unless it found no chain and that
 -- is in guest memory already.
@@ -157,18 +183,17 @@ pub data Runs (guest : ℕ) : Stand → Boards → Stand → Boards → Type 0 w
   -- a notification is due: the monitor is told of it
   Calls : (s : Stand) (qs : List Range) (a b c : Boards)
       → Runs guest s a (standing qs true) b → Notified guest b c → Runs guest s a (owing qs) c
-  -- there is no memory where bytes were to be copied: the device waits for a reset, and what is left
-  -- is void
+  -- it can't go on: the device waits for a reset, and what is left is void
   Voids : (s : Stand) (qs : List Range) (g : Bool) (a b c : Boards)
-      → Runs guest s a (standing qs g) b → RefusesIn guest b c → Runs guest s a (standing [] g) c
+      → Runs guest s a (standing qs g) b → CantGoOn guest qs b → RefusesIn guest b c
+      → Runs guest s a (standing [] g) c
 
 -- a step did what it is for; or a call of the disk failed, by which the store breaks
 abbrev pub IsDone : Step → Answer → Type 0
 IsDone x answer = (answer ≡ Ok Did) ⊎ ((x ≡ step.Advance) × (answer ≢ Ok Nothing))
 
 -- Something was done among such steps: one of them did what it is for, or broke the store; a chain
--- was popped; a reply was handed to its device; or the device was stopped, since there is no memory
--- where bytes were to be copied.
+-- was popped; or a reply was handed to its device.
 pub data DoesSome (guest : ℕ) : Stand → Boards → Stand → Boards → Type 0 where
   ByStep : (s t u : Stand) (a b c d : Boards) (x : Step) (answer : Answer)
       → Runs guest s a t b → IsShare guest x b → Makes x answer b c → IsDone x answer
@@ -179,9 +204,24 @@ pub data DoesSome (guest : ℕ) : Stand → Boards → Stand → Boards → Type
   ByReply : (s u : Stand) (qs : List Range) (a b c d : Boards)
       → Runs guest s a (standing [] true) b → HandsOne guest b qs c
       → Runs guest (standing qs false) c u d → DoesSome guest s a u d
-  ByStop : (s u : Stand) (qs : List Range) (g : Bool) (a b c d : Boards)
-      → Runs guest s a (standing qs g) b → RefusesIn guest b c
-      → Runs guest (standing [] g) c u d → DoesSome guest s a u d
+
+-- So many things were done among such steps, one behind the other.
+pub data DoesMany (guest : ℕ) : ℕ → Stand → Boards → Stand → Boards → Type 0 where
+  DoesNone : (n : ℕ) (s t : Stand) (a b : Boards) → n ≡ 0 → Runs guest s a t b
+      → DoesMany guest n s a t b
+  DoesMore : (m n : ℕ) (s t u : Stand) (a b c : Boards) → m ≡ n + 1
+      → DoesMany guest n s a t b → DoesSome guest t b u c → DoesMany guest m s a u c
+
+-- Last of all the guest's device was stopped, which can't go on, and didn't wait for a reset yet.
+pub record HasStopped (guest : ℕ) (s : Stand) (a : Boards) (t : Stand) (b : Boards) : Type 0 where
+  pub before : Boards
+  pub parts : List Range
+  pub going : Bool
+  pub runs : Runs guest s a (standing parts going) before
+  pub went_on : IsGoing guest before
+  pub why : CantGoOn guest parts before
+  pub refuses : RefusesIn guest before b
+  pub left : t ≡ standing [] going
 
 -- of every other guest the device stays, and what lies between two steps
 pub record OthersStay {D : Type 0} (guest : ℕ) (old new : BoardState D) : Type 0 where

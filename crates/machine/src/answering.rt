@@ -2,11 +2,13 @@
 ghost use Rattle.std.specs.Prelude.{◌≡◌, ◌<◌, ◌≤◌, ◌⊎◌, [], List, length, take, true, false};
 ghost use Rattle.std.specs.Prelude.{Bool, Err, IfSome, OnErr, OnOk, Some, slice_get};
 ghost use Rattle.chains.specs.declared.range.Range.{Range as Part};
-ghost use Rattle.guest_memory.specs.Memory.{IsInside, bytes_at};
+ghost use Rattle.guest_memory.specs.Memory.{IsHeld, IsInside, bytes_at};
 ghost use Rattle.guest_memory.specs.declared.ask.Ask.{Ask};
-ghost use Rattle.machine.specs.Ending.{HearsAnswer, IsBusy, NeedsTold, TakesAnswer, TellsIn};
+ghost use Rattle.mmio_transport.specs.Asking.{known};
+ghost use Rattle.machine.specs.Ending.{Begins, HearsAnswer, TakesAnswer, TellsIn};
 ghost use Rattle.machine.specs.Ending.{left_by};
-ghost use Rattle.machine.specs.Serving.{DoesSome, KeepsLimit, RefusesIn, Runs, standing};
+ghost use Rattle.machine.specs.Serving.{AsksIn, HasStopped, IsGoing, KeepsLimit, RefusesIn, Runs};
+ghost use Rattle.machine.specs.Serving.{standing};
 ghost use Rattle.machine.specs.Turn.{stand_of};
 ghost use Rattle.machine.specs.declared.turn.Asked.TheVariants as asked_of;
 
@@ -17,16 +19,18 @@ use board::AskingBoard;
 use chains::Range;
 use disk::OutboxDisk;
 use guest_memory::{Ask, MemFault};
+use mmio_transport::register;
 
 /// The most bytes that are asked for, or written, at once.
 pub(crate) const LARGEST_PART: usize = 16_384;
+
+/// DEVICE_NEEDS_RESET in Status (VIRTIO 1.2, 2.1).
+const NEEDS_RESET: u32 = 64;
 
 /// The guest has no memory where bytes were asked for or were to be copied to: its device waits for
 /// a reset.
 fn refuse(board: &mut AskingBoard<OutboxDisk>, guest: u16, turn: &mut Turn)
     requires { guest < length board.old.devices }
-    ensures runs { (ps : List Part) (g : Bool) → Runs guest (standing ps g) board.old (standing [] g)
-        board.new }
     ensures count { length board.new.devices ≡ length board.old.devices }
     ensures turn { turn.new ≡ record turn.old { parts = [] } }
     ensures refuses { RefusesIn guest board.old board.new }
@@ -43,8 +47,6 @@ fn told(
     bytes: &[u8],
 ) -> Result<(), MemFault>
     requires { guest < length board.old.devices }
-    ensures runs { (ps : List Part) (g : Bool) → Runs guest (standing ps g) board.old (standing ps g)
-        board.new }
     ensures count { length board.new.devices ≡ length board.old.devices }
     ensures told { OnOk result (TellsIn guest ask.at (take ask.len bytes.now) board.old board.new) }
     ensures same { OnErr result (board.new ≡ board.old) }
@@ -68,7 +70,7 @@ fn answer(
     bytes: &[u8],
 ) -> bool
     requires { guest < length board.old.devices }
-    ensures runs { Runs guest (stand_of turn.old) board.old (stand_of turn.new) board.new }
+    ensures begins { Begins guest (stand_of turn.old) board.old (stand_of turn.new) board.new }
     ensures count { length board.new.devices ≡ length board.old.devices }
     ensures takes { TakesAnswer guest turn.old.asked is_there bytes.now board.old result board.new }
 {
@@ -99,10 +101,40 @@ fn answer(
     }
 }
 
+/// Whether the guest's device waits for a reset.
+fn waits_for_reset(board: &AskingBoard<OutboxDisk>, guest: u16) -> bool
+    ensures { result ≡ false → IsGoing guest board.now }
+{
+    match board.device_of(guest) {
+        Some(device) => device.read(register::STATUS, 4) / NEEDS_RESET % 2 == 1,
+        None => true,
+    }
+}
+
+/// What the guest's device needs isn't to be had: it is stopped, and served again. It doesn't come
+/// to this where it waits for a reset already, as it needs nothing then; and would be told as
+/// `NoMemory`.
+fn give_up(board: &mut AskingBoard<OutboxDisk>, guest: u16, turn: &mut Turn) -> Next
+    requires { guest < length board.old.devices }
+    ensures turn { turn.new ≡ record turn.old { parts = [] } }
+    ensures refuses { RefusesIn guest board.old board.new }
+    ensures either { ((result ≡ Next.Again) × IsGoing guest board.old)
+        ⊎ (result ≡ Next.Rest (Some MachineFault.NoMemory)) }
+{
+    let waits = waits_for_reset(board, guest);
+    refuse(board, guest, turn);
+    if waits {
+        return Next::Rest(Some(MachineFault::NoMemory));
+    }
+    Next::Again
+}
+
 /// Copies a part of guest memory that is to be written to the front of `out`. Whether it could.
 fn copy_part(board: &AskingBoard<OutboxDisk>, guest: u16, part: Range, out: &mut [u8]) -> bool
     ensures copied { result ≡ true → IfSome (slice_get board.now.devices guest) (λ d.
         take part.len out.new ≡ bytes_at d.device.memory part.at part.len) }
+    ensures none { result ≡ false → (length out.old < part.len)
+        ⊎ IfSome (slice_get board.now.devices guest) (λ d. ¬ IsHeld (known d) part.at part.len) }
     ensures count { length out.new ≡ length out.old }
 {
     let count = part.len as usize;
@@ -124,11 +156,14 @@ fn need(
     next: Next,
     out: &mut [u8],
 ) -> Next
-    requires { guest < length board.old.devices }
+    requires guest { guest < length board.old.devices }
+    requires room { 16384 ≤ length out.old }
+    requires asks { (wanted : Ask) → next ≡ Next.Read wanted → AsksIn guest wanted board.old }
     ensures runs { Runs guest (left_by (Some next) turn.old) board.old
         (left_by (Some result) turn.new) board.new }
-    ensures same { (result ≡ next) ⊎ ((result ≡ Next.Again)
-        × DoesSome guest (left_by (Some next) turn.old) board.old (stand_of turn.new) board.new) }
+    ensures same { (result ≡ next) ⊎ ((result ≡ Next.Rest (Some MachineFault.NoMemory))
+        ⊎ ((result ≡ Next.Again) × HasStopped guest (left_by (Some next) turn.old) board.old
+        (stand_of turn.new) board.new)) }
     ensures board { result ≡ next → (board.new ≡ board.old) × (stand_of turn.new ≡ stand_of turn.old) }
     ensures rest { board.new.rest ≡ board.old.rest }
     ensures read { (wanted : Ask) → result ≡ Next.Read wanted
@@ -140,16 +175,14 @@ fn need(
     match next {
         Next::Read(wanted) => {
             if wanted.len > LARGEST_PART as u64 {
-                refuse(board, guest, turn);
-                return Next::Again;
+                return give_up(board, guest, turn);
             }
             turn.asked = Asked::Read(wanted);
             next
         }
         Next::Write(part) => {
             if !copy_part(board, guest, part, out) {
-                refuse(board, guest, turn);
-                return Next::Again;
+                return give_up(board, guest, turn);
             }
             turn.asked = Asked::Write;
             next
@@ -169,15 +202,11 @@ pub(crate) fn serve_turn(
     is_there: bool,
     bytes: &mut [u8],
 ) -> Next
-    requires { guest < length board.old.devices }
-    ensures runs { Runs guest (stand_of turn.old) board.old (left_by (Some result) turn.new)
-        board.new }
-    ensures needs { NeedsTold guest most turn.new bytes.new board.new result }
-    ensures busy { result ≡ Next.Again
-        → IsBusy guest (stand_of turn.old) board.old (stand_of turn.new) board.new }
+    requires guest { guest < length board.old.devices }
+    requires room { 16384 ≤ length bytes.old }
+    ensures heard { HearsAnswer guest most turn.old.asked is_there bytes.old (stand_of turn.old)
+        board.old turn.new bytes.new board.new result }
     ensures limit { KeepsLimit guest most board.old.rest board.new.rest }
-    ensures heard { HearsAnswer guest turn.old.asked is_there bytes.old board.old
-        (left_by (Some result) turn.new) board.new (result ≡ Next.Rest (Some MachineFault.NoMemory)) }
 {
     if !answer(board, guest, turn, is_there, bytes) {
         return Next::Rest(Some(MachineFault::NoMemory));

@@ -6,9 +6,8 @@ ghost use Rattle.guest_memory.specs.declared.ask.Ask.{Ask};
 ghost use Rattle.mmio_transport.specs.Written.{range_in};
 ghost use Rattle.board.specs.Asking.{board_of};
 ghost use Rattle.board.specs.State.{in_place};
-ghost use Rattle.machine.specs.Ending.{AsksIn};
-ghost use Rattle.machine.specs.Serving.{AddsNone, DoesSome, HasNoReply, IsNoted, QueuesStay, Runs};
-ghost use Rattle.machine.specs.Serving.{SameDevices, standing};
+ghost use Rattle.machine.specs.Serving.{AddsNone, AsksIn, DoesSome, HasNoReply, IsNoted};
+ghost use Rattle.machine.specs.Serving.{QueuesStay, Runs, SameDevices, standing};
 ghost use Rattle.machine.specs.Turn.{KeepsStage, stand_of, filled_part, filled_parts};
 
 use crate::taking::begin;

@@ -8,7 +8,6 @@ ghost use Rattle.disk.specs.Outbox.{first_of};
 ghost use Rattle.machine.specs.Machine.{Completes, Copies, IsServed, LeavesEach, TellsOf};
 ghost use Rattle.machine.specs.Machine.{is_awaited, kick_in, line_by, shown_in};
 ghost use Rattle.machine.specs.Machine.{GoesOn, IsTold, telling_board, waits_for_sync, writes_in};
-ghost use Rattle.machine.specs.Ending.{HearsAnswer};
 ghost use Rattle.machine.specs.Machine.{is_over, left_of};
 ghost use Rattle.machine.specs.Machine.{has_guest, turn_of, written_in};
 
@@ -166,12 +165,7 @@ impl Machine {
     /// `NoGuest`, or `OutOfRange` where `bytes` has less than 16,384, with nothing changed.
     pub fn serve(&mut self, guest: u16, is_there: bool, bytes: &mut [u8]) -> Served
         ensures served { IsServed guest self.old self.new }
-        ensures tells { TellsOf guest (length bytes.old) result bytes.new self.old self.new }
-        // What was read is what the device believes.
-        ensures heard { has_guest self.old guest ≡ true → 16384 ≤ length bytes.old
-            → HearsAnswer guest (turn_of self.old guest).asked is_there bytes.old self.old.board
-            (left_of result.what result.at result.len (turn_of self.new guest)) self.new.board
-            (result.fault ≡ Some MachineFault.NoMemory) }
+        ensures tells { TellsOf guest is_there bytes.old result bytes.new self.old self.new }
     {
         let at = usize::from(guest);
         if at >= self.setups.len() || at >= self.turns.len() || at >= self.board.guests() {

@@ -4,7 +4,8 @@ ghost use Rattle.chains.specs.declared.range.Range.{Range as Part};
 ghost use Rattle.guest_memory.specs.declared.ask.Ask.{Ask};
 ghost use Rattle.machine.specs.Ending.{HasEnded, HasSeenAll, IsHandedOn, NotifiesNext, Went};
 ghost use Rattle.machine.specs.Ending.{left_by};
-ghost use Rattle.machine.specs.Serving.{HasNoReply, Runs, SameDevices, standing};
+ghost use Rattle.machine.specs.Serving.{Boards, HasNoReply, Runs, SameDevices, standing};
+ghost use Rattle.machine.specs.Turn.{Stand, stand_of};
 ghost use Rattle.machine.specs.declared.fault.MachineFault.{MachineFault};
 
 use crate::fault::MachineFault;
@@ -78,8 +79,9 @@ fn rest(
     requires left { IsHandedOn guest board.old.rest × HasNoReply guest board.old.rest
         × HasSeenAll guest board.old }
     requires parts { turn.old.parts ≡ [] }
-    ensures went { (most : ℕ) → HasEnded guest most board.old fault
-        → Went guest most turn.old turn.new board.old board.new (Some result) }
+    ensures went { (most : ℕ) (s : Stand) (a : Boards)
+        → HasEnded guest most s a (stand_of turn.old) board.old fault
+        → Went guest most s a turn.old turn.new board.old board.new (Some result) }
 {
     if has_write(board) {
         return Next::Again;
@@ -99,8 +101,9 @@ fn settle_down(
 ) -> Option<Next>
     requires guest { guest < length board.old.devices }
     requires parts { turn.old.parts ≡ [] }
-    ensures went { (most : ℕ) → HasEnded guest most board.old fault
-        → Went guest most turn.old turn.new board.old board.new result }
+    ensures went { (most : ℕ) (s : Stand) (a : Boards)
+        → HasEnded guest most s a (stand_of turn.old) board.old fault
+        → Went guest most s a turn.old turn.new board.old board.new result }
 {
     if hand_all(board, guest) {
         return None;
@@ -129,7 +132,8 @@ fn settle_down(
 fn take(board: &mut AskingBoard<OutboxDisk>, guest: u16, most: u16, turn: &mut Turn) -> Option<Next>
     requires parts { turn.old.parts ≡ [] }
     requires guest { guest < length board.old.devices }
-    ensures went { Went guest most turn.old turn.new board.old board.new result }
+    ensures went { Went guest most (stand_of turn.old) board.old turn.old turn.new board.old
+        board.new result }
 {
     match take_one(board, guest, most, turn) {
         Taken::Asks(ask) => Some(Next::Read(ask)),
@@ -146,7 +150,8 @@ fn take(board: &mut AskingBoard<OutboxDisk>, guest: u16, most: u16, turn: &mut T
 fn call(board: &mut AskingBoard<OutboxDisk>, guest: u16, most: u16, turn: &mut Turn) -> Option<Next>
     requires parts { turn.old.parts ≡ [] }
     requires guest { guest < length board.old.devices }
-    ensures went { Went guest most turn.old turn.new board.old board.new result }
+    ensures went { Went guest most (stand_of turn.old) board.old turn.old turn.new board.old
+        board.new result }
 {
     match notify(board, guest, turn) {
         Some(next) => Some(next),
@@ -163,7 +168,8 @@ fn leave(
 ) -> Option<Next>
     requires parts { turn.old.parts ≡ [] }
     requires guest { guest < length board.old.devices }
-    ensures went { Went guest most turn.old turn.new board.old board.new result }
+    ensures went { Went guest most (stand_of turn.old) board.old turn.old turn.new board.old
+        board.new result }
 {
     match leave_one(board, guest, turn) {
         Left::Asks(ask) => Some(Next::Read(ask)),
@@ -185,7 +191,8 @@ fn move_on(
     turn: &mut Turn,
 ) -> Option<Next>
     requires { guest < length board.old.devices }
-    ensures went { Went guest most turn.old turn.new board.old board.new result }
+    ensures went { Went guest most (stand_of turn.old) board.old turn.old turn.new board.old
+        board.new result }
 {
     if let Some(part) = turn.next_part() {
         return Some(Next::Write(part));
@@ -205,9 +212,10 @@ pub(crate) fn serve(
     turn: &mut Turn,
 ) -> Next
     requires { guest < length board.old.devices }
-    ensures went { Went guest most turn.old turn.new board.old board.new (Some result) }
+    ensures went { Went guest most (stand_of turn.old) board.old turn.old turn.new board.old
+        board.new (Some result) }
 {
-    for _move in 1..MOST_MOVES {
+    for _move in 0..MOST_MOVES - 1 {
         if let Some(next) = move_on(board, guest, most, turn) {
             return next;
         }

@@ -135,7 +135,8 @@ fn pop(board: &mut AskingBoard<OutboxDisk>, guest: u16, turn: &mut Turn) -> Take
     requires guest { guest < length board.old.devices }
     requires begun { turn.old.going ≡ true }
     ensures runs { Runs guest (standing [] true) board.old (stand_of turn.new) board.new }
-    ensures taken { (most : ℕ) → IsTaken guest most turn.new.parts board.new result }
+    ensures taken { (most : ℕ)
+        → IsTaken guest most (standing [] true) board.old turn.new board.new result }
     ensures did { result ≡ Taken.Did
         → TookSome guest (standing [] true) board.old turn.new board.new }
     ensures waits { waiting guest board.new.rest ≤ waiting guest board.old.rest + 1 }
@@ -175,7 +176,8 @@ fn look(board: &mut AskingBoard<OutboxDisk>, guest: u16, turn: &mut Turn) -> Tak
     requires guest { guest < length board.old.devices }
     ensures runs { Runs guest (standing [] turn.old.going) board.old (stand_of turn.new)
         board.new }
-    ensures taken { (most : ℕ) → IsTaken guest most turn.new.parts board.new result }
+    ensures taken { (most : ℕ) → IsTaken guest most (standing [] turn.old.going) board.old turn.new
+        board.new result }
     ensures did { result ≡ Taken.Did
         → TookSome guest (standing [] turn.old.going) board.old turn.new board.new }
     ensures waits { waiting guest board.new.rest ≤ waiting guest board.old.rest + 1 }
@@ -192,7 +194,7 @@ fn submit(board: &mut AskingBoard<OutboxDisk>, guest: u16) -> Taken
     requires job { IsSome (in_place (slice_get board.old.rest.jobs guest)) }
     ensures runs { (s : Stand) → Runs guest s board.old s board.new }
     ensures did { result ≡ Taken.Did → (s : Stand) → DoesSome guest s board.old s board.new }
-    ensures either { (result ≡ Taken.Did) ⊎ IsRefused guest result }
+    ensures either { (result ≡ Taken.Did) ⊎ IsRefused guest result board.old board.new }
     ensures waits { waiting guest board.new.rest ≤ waiting guest board.old.rest }
     ensures devices { board.new.devices ≡ board.old.devices }
 {
@@ -215,7 +217,8 @@ pub(crate) fn take_one(
     requires guest { guest < length board.old.devices }
     ensures runs { Runs guest (standing [] turn.old.going) board.old (stand_of turn.new)
         board.new }
-    ensures taken { IsTaken guest most turn.new.parts board.new result }
+    ensures taken { IsTaken guest most (standing [] turn.old.going) board.old turn.new board.new
+        result }
     ensures did { result ≡ Taken.Did
         → TookSome guest (standing [] turn.old.going) board.old turn.new board.new }
     ensures limit { KeepsLimit guest most board.old.rest board.new.rest }

@@ -5,16 +5,12 @@ use Rattle.disk.specs.Outbox.{first_of}
 use Rattle.disk.specs.declared.outbox_disk.Told.TheVariants.{Failed, Synced, Taken}
 use Rattle.board.specs.State.{owes}
 use Rattle.machine.specs.Machine.{Completes, Copies, GoesOn, IsServed, MachineState, TellsOf}
-use Rattle.machine.specs.Machine.{left_of}
-use Rattle.machine.specs.Ending.{HearsAnswer}
-use Rattle.machine.specs.Machine.{has_guest, is_awaited, kick_in, line_by, shown_by}
-use Rattle.machine.specs.Machine.{telling_board, turn_of}
+use Rattle.machine.specs.Machine.{is_awaited, kick_in, line_by, shown_by, telling_board}
 use Rattle.machine.specs.Machine.{waits_for_sync, written_in}
 use Rattle.machine.specs.Starting.{begun_in, is_up, offered_of, set_in, started_in}
 use Rattle.machine.specs.declared.starting.Areas.{Areas}
 use Rattle.machine.specs.Opening.{HasImageFault, HasOpeningFault, IsMonitored, length_of}
 use Rattle.machine.specs.declared.fault.MachineFault.{MachineFault}
-use Rattle.machine.specs.declared.fault.MachineFault.TheVariants.{NoMemory}
 use Rattle.machine.specs.declared.machine.Served.{Served}
 use Rattle.machine.specs.declared.settings.Setup.{Setup}
 use Rattle.rpmb_host.specs.Numbers.{fault_number, flag, kick_number, told_number, what_number}
@@ -102,12 +98,7 @@ pub record ServesBy (guest done : ℕ) (bytes bytes' : List ℕ) (n : RpmbNext)
     (old new : MachineState) : Type 0 where
   pub served : IsServed guest old new
   pub told : Served
-  pub tells : TellsOf guest (length bytes) told bytes' old new
-  -- what was read is what the device believes
-  pub heard : has_guest old guest ≡ true → 16384 ≤ length bytes
-      → HearsAnswer guest (turn_of old guest).asked (not (done == 0)) bytes old.board
-      (left_of told.what told.at told.len (turn_of new guest)) new.board
-      (told.fault ≡ Some NoMemory)
+  pub tells : TellsOf guest (not (done == 0)) bytes told bytes' old new
   pub at : n.at ≡ told.at
   pub len : n.len ≡ told.len % 4294967296
   pub fault : n.fault ≡ told_number told.fault

@@ -1,14 +1,54 @@
-use Rattle.std.proofs.Common.{◌∷◌, ◌∙◌, List, [], Bool, Some, ap, inr, refl, subst, sym, ℕ}
-use Rattle.machine.proofs.Common.{Boards, Range, Runs, Still, stand_of, standing}
+use Rattle.std.proofs.Common.{◌≡◌, ◌⊎◌, ◌∷◌, ◌∙◌, List, [], Some, ap, inl, inr, refl, subst, sym}
+use Rattle.std.proofs.Common.{ℕ, ◌<◌, ◌≤◌, IfSome, arith}
+use Rattle.machine.proofs.Common.{Boards, Range, Runs, Still, Voids, slice_get, stand_of}
+use Rattle.machine.proofs.Common.{standing}
 use Rattle.machine.specs.Ending.{left_by}
-use Rattle.machine.specs.Serving.{ByStop, DoesSome, RefusesIn}
+use Rattle.machine.specs.Serving.{CantGoOn, HasStopped, IsGoing, NoCopy, RefusesIn, TooMuch}
+use Rattle.guest_memory.specs.Memory.{IsHeld}
+use Rattle.mmio_transport.specs.Asking.{known}
+use Rattle.machine.specs.Turn.{TurnState}
+use Rattle.machine.specs.declared.fault.MachineFault.TheVariants as fault
+use Rattle.machine.specs.declared.serving.Next.{Next}
+use Rattle.machine.specs.declared.serving.Next.TheVariants as next
 use Rattle.machine.proofs.Runs.{still_same}
 use Rattle.machine.proofs.answering.need.Goals as goal
 
-stops : (guest : ℕ) (ps : List Range) (g : Bool) (a b : Boards) → RefusesIn guest a b
-    → DoesSome guest (standing ps g) a (standing [] g) b
-stops guest ps g a b refuses = ByStop (standing ps g) (standing [] g) ps g a a b b
-    (Still (standing ps g) a) refuses (Still (standing [] g) b)
+-- what a device needed that was given up
+module _ (guest : ℕ) (n r : Next) (t t' : TurnState) (ps : List Range) (a b : Boards)
+    (from : left_by (Some n) t ≡ standing ps t.going) (turn : t' ≡ record t { parts = [] })
+    (either : ((r ≡ next.Again) × IsGoing guest a) ⊎ (r ≡ next.Rest (Some fault.NoMemory)))
+    (why : CantGoOn guest ps a) (refuses : RefusesIn guest a b) where
+  left_given : left_by (Some r) t' ≡ standing [] t.going
+  left_given = elim either [
+    | inl again ↦ ap (λ x. left_by (Some x) t') again.0 ∙ ap stand_of turn
+    | inr memory ↦ ap (λ x. left_by (Some x) t') memory ∙ ap stand_of turn
+  ]
+
+  given_runs : Runs guest (left_by (Some n) t) a (left_by (Some r) t') b
+  given_runs =
+      subst (λ s. Runs guest s a (left_by (Some r) t') b) (sym from)
+      (subst (λ s. Runs guest (standing ps t.going) a s b) (sym left_given)
+      (Voids (standing ps t.going) ps t.going a a b (Still (standing ps t.going) a) why refuses))
+
+  given_up : (r ≡ n) ⊎ ((r ≡ next.Rest (Some fault.NoMemory))
+      ⊎ ((r ≡ next.Again) × HasStopped guest (left_by (Some n) t) a (stand_of t') b))
+  given_up = elim either [
+    | inl again ↦ inr (inr (
+      again.0,
+      record {
+        before = a;
+        parts = ps;
+        going = t.going;
+        runs = subst (λ s. Runs guest s a (standing ps t.going) a) (sym from)
+            (Still (standing ps t.going) a);
+        went_on = again.1;
+        why = why;
+        refuses = refuses;
+        left = ap stand_of turn;
+      },
+    ))
+    | inr memory ↦ inr (inl memory)
+  ]
 
 pub returns-else-wanted-clause-runs : goal.returns-else-wanted-clause-runs
 returns-else-wanted-clause-runs c =
@@ -35,47 +75,48 @@ returns-in-Rest-clause-runs c = Still (left_by (Some c.args.next) c.args.turn.no
 pub returns-then-wanted-clause-runs : goal.returns-then-wanted-clause-runs
 returns-then-wanted-clause-runs c =
     let t = c.args.turn.now in
-    let end = stand_of c.refuse.new.turn in
-    subst (λ n. Runs c.args.guest (left_by (Some n) t) c.args.board.now end c.refuse.new.board)
-    (sym c.in-Read.is)
-    (subst (λ rs. Runs c.args.guest (stand_of t) c.args.board.now rs c.refuse.new.board)
-    (sym (ap stand_of c.refuse.ensures.turn)) (c.refuse.ensures.runs t.parts t.going))
+    let gave = c.give_up in
+    given_runs c.args.guest c.args.next gave.result t gave.new.turn t.parts c.args.board.now
+    gave.new.board (ap (λ n. left_by (Some n) t) c.in-Read.is) gave.ensures.turn
+    gave.ensures.either (TooMuch c.in-Read.wanted (c.requires.asks c.in-Read.wanted c.in-Read.is)
+    c.if-wanted.true) gave.ensures.refuses
 
 pub returns-then-wanted-clause-same : goal.returns-then-wanted-clause-same
 returns-then-wanted-clause-same c =
     let t = c.args.turn.now in
-    let b = c.args.board.now in
-    inr (
-      refl,
-      subst (λ n. DoesSome c.args.guest (left_by (Some n) t) b (stand_of c.refuse.new.turn)
-          c.refuse.new.board) (sym c.in-Read.is)
-          (subst (λ rs. DoesSome c.args.guest (stand_of t) b rs c.refuse.new.board)
-          (sym (ap stand_of c.refuse.ensures.turn))
-          (stops c.args.guest t.parts t.going b c.refuse.new.board c.refuse.ensures.refuses)),
-    )
+    let gave = c.give_up in
+    given_up c.args.guest c.args.next gave.result t gave.new.turn t.parts c.args.board.now
+    gave.new.board (ap (λ n. left_by (Some n) t) c.in-Read.is) gave.ensures.turn
+    gave.ensures.either (TooMuch c.in-Read.wanted (c.requires.asks c.in-Read.wanted c.in-Read.is)
+    c.if-wanted.true) gave.ensures.refuses
 
-pub returns-then-not-copy_part-clause-same : goal.returns-then-not-copy_part-clause-same
-returns-then-not-copy_part-clause-same c =
-    let t = c.args.turn.now in
-    let b = c.args.board.now in
-    let refused = c.refuse-then-not-copy_part in
-    let ps = c.in-Write.part ∷ t.parts in
-    inr (
-      refl,
-      subst (λ n. DoesSome c.args.guest (left_by (Some n) t) b
-          (stand_of refused.new.turn) refused.new.board) (sym c.in-Write.is)
-          (subst (λ rs. DoesSome c.args.guest (standing ps t.going) b rs refused.new.board)
-          (sym (ap stand_of refused.ensures.turn))
-          (stops c.args.guest ps t.going b refused.new.board refused.ensures.refuses)),
-    )
+-- there is no copy of the part, or it is longer than what was lent
+no_copy : (guest len : ℕ) (part : Range) (ps : List Range) (b : Boards) → 16384 ≤ len
+    → (len < part.len)
+    ⊎ IfSome (slice_get b.devices guest) (λ d. ¬ IsHeld (known d) part.at part.len)
+    → CantGoOn guest (part ∷ ps) b
+no_copy guest len part ps b room (inl short) =
+    NoCopy part ps refl (inl (omega (arith, room, short)))
+no_copy guest len part ps b room (inr none) = NoCopy part ps refl (inr none)
 
 pub returns-then-not-copy_part-clause-runs : goal.returns-then-not-copy_part-clause-runs
 returns-then-not-copy_part-clause-runs c =
     let t = c.args.turn.now in
-    let refused = c.refuse-then-not-copy_part in
-    let ps = c.in-Write.part ∷ t.parts in
-    let end = stand_of refused.new.turn in
-    subst (λ n. Runs c.args.guest (left_by (Some n) t) c.args.board.now end refused.new.board)
-    (sym c.in-Write.is)
-    (subst (λ rs. Runs c.args.guest (standing ps t.going) c.args.board.now rs refused.new.board)
-    (sym (ap stand_of refused.ensures.turn)) (refused.ensures.runs ps t.going))
+    let gave = c.give_up-then-not-copy_part in
+    let part = c.in-Write.part in
+    given_runs c.args.guest c.args.next gave.result t gave.new.turn (part ∷ t.parts)
+    c.args.board.now gave.new.board (ap (λ n. left_by (Some n) t) c.in-Write.is)
+    gave.ensures.turn gave.ensures.either
+    (no_copy c.args.guest _ part t.parts c.args.board.now c.requires.room
+    (c.copy_part.ensures.none c.if-not-copy_part.true)) gave.ensures.refuses
+
+pub returns-then-not-copy_part-clause-same : goal.returns-then-not-copy_part-clause-same
+returns-then-not-copy_part-clause-same c =
+    let t = c.args.turn.now in
+    let gave = c.give_up-then-not-copy_part in
+    let part = c.in-Write.part in
+    given_up c.args.guest c.args.next gave.result t gave.new.turn (part ∷ t.parts)
+    c.args.board.now gave.new.board (ap (λ n. left_by (Some n) t) c.in-Write.is)
+    gave.ensures.turn gave.ensures.either
+    (no_copy c.args.guest _ part t.parts c.args.board.now c.requires.room
+    (c.copy_part.ensures.none c.if-not-copy_part.true)) gave.ensures.refuses

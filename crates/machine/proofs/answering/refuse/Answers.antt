@@ -1,5 +1,4 @@
 use Rattle.std.proofs.Common.{ap}
-use Rattle.machine.proofs.Common.{Still, Voids, standing}
 use Rattle.machine.proofs.Moved.{moved}
 use Rattle.machine.proofs.answering.refuse.Goals as goal
 
@@ -11,9 +10,3 @@ returns-clause-refuses c =
       its = c.device.ensures.device;
       after = ap (λ d. moved b c.args.guest d) c.refuse.ensures;
     }
-
-pub returns-clause-runs : goal.returns-clause-runs
-returns-clause-runs c ps g =
-    let b = c.args.board.now in
-    Voids (standing ps g) ps g b b (moved b c.args.guest c.refuse.new.self) (Still (standing ps g) b)
-    (returns-clause-refuses c)

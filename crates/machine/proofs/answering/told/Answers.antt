@@ -1,17 +1,8 @@
 use Rattle.std.proofs.Common.{inr, length, subst, sym, IfSome}
 use Rattle.guest_memory.specs.Memory.{IsInside}
-use Rattle.machine.proofs.Common.{Still, standing, take}
-use Rattle.machine.proofs.Moved.{tells_err, tells_ok, told_runs}
+use Rattle.machine.proofs.Common.{take}
+use Rattle.machine.proofs.Moved.{tells_err, tells_ok}
 use Rattle.machine.proofs.answering.told.Goals as goal
-
-pub returns-then-ask-bytes-clause-runs : goal.returns-then-ask-bytes-clause-runs
-returns-then-ask-bytes-clause-runs c ps g = Still (standing ps g) c.args.board.now
-
-pub returns-clause-runs : goal.returns-clause-runs
-returns-clause-runs c ps g =
-    told_runs c.args.guest c.args.board.now c.device.result.now c.tell.new.self
-    c.device.ensures.device ps g c.args.ask.at _ c.tell.result c.tell.ensures.ok
-    c.tell.ensures.unchanged
 
 pub returns-clause-told : goal.returns-clause-told
 returns-clause-told c =

@@ -17,11 +17,12 @@ returns-in-Some c =
     let b' = c.notify.new.board in
     let needs = subst (λ o. NotifiesNext g b' o) c.in-Some.is n.needs in
     record {
-      went = went_by g c.args.most t t' c.args.board.now b' _
+      went = went_by g c.args.most (stand_of t) c.args.board.now t t' c.args.board.now b' _
           (subst (λ o. Runs g (stand_of t) c.args.board.now (left_by o t') b') c.in-Some.is
           (subst (λ ps. Runs g (standing ps t.going) c.args.board.now
           (left_by c.notify.result t') b') (sym c.requires.parts) n.runs))
-          (notified_needs g c.args.most t'.parts b' (Some c.in-Some.next) needs)
+          (notified_needs g c.args.most (stand_of t) c.args.board.now t' b' (Some c.in-Some.next)
+          needs)
           (notified_busy g c.args.most (stand_of t) c.args.board.now b' t' c.in-Some.next needs)
           n.count n.asked (limit_same g c.args.most c.args.board.now.rest b'.rest n.rest);
     }

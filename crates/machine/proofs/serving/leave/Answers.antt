@@ -1,7 +1,7 @@
 use Rattle.std.proofs.Common.{inl, refl, ap, sym, subst, ◌∙◌}
 use Rattle.machine.proofs.Common.{Runs, stand_of, standing}
-use Rattle.machine.specs.Ending.{Lacks}
-use Rattle.machine.proofs.Goings.{went_after, went_by}
+use Rattle.machine.specs.declared.fault.MachineFault.TheVariants as fault
+use Rattle.machine.proofs.Goings.{lacks, went_after, went_by}
 use Rattle.machine.proofs.Popping.{gives_up}
 use Rattle.machine.proofs.Runs.{runs_twice}
 use Rattle.machine.proofs.serving.leave.Goals as goal
@@ -19,12 +19,12 @@ returns-in-NoMemory c =
     let t = stand_of c.leave_one.new.turn in
     let u = stand_of c.take_next.new.self in
     record {
-      went = went_by g c.args.most c.args.turn.now c.take_next.new.self a b _
+      went = went_by g c.args.most s a c.args.turn.now c.take_next.new.self a b _
           (runs_twice g s t u a b b
           (subst (λ ps. Runs g (standing ps s.going) a t b) (sym c.requires.parts)
           c.leave_one.ensures.runs)
           (gives_up g t.parts t.going u b (ap stand_of c.take_next.ensures)))
-          (Lacks refl) tt c.leave_one.ensures.count.0
+          (lacks g fault.NoMemory s a c.take_next.new.self b refl) tt c.leave_one.ensures.count.0
           (ap (λ v. v.asked) c.take_next.ensures ∙ c.leave_one.ensures.keeps.1)
           (inl c.leave_one.ensures.count.1);
     }

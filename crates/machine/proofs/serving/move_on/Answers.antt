@@ -18,9 +18,11 @@ returns-in-Some c =
     (ap (λ v. standing (part ∷ t.parts) v.going) c.next_part.ensures.rest
     ∙ ap (λ qs. standing qs s.going) (sym c.in-Some.ensures.some)) in
     record {
-      went = went_by g c.args.most c.args.turn.now c.next_part.new.self b b (Some (next.Write part))
+      went = went_by g c.args.most s b c.args.turn.now c.next_part.new.self b b
+          (Some (next.Write part))
           first tt tt refl
-          (ap (λ t. t.asked) c.next_part.ensures.rest) (limit_same g c.args.most b.rest b.rest refl);
+          (ap (λ t. t.asked) c.next_part.ensures.rest)
+          (limit_same g c.args.most b.rest b.rest refl);
     }
 
 pub take-requires-clause-parts : goal.take-requires-clause-parts
@@ -33,14 +35,16 @@ leave-requires-clause-parts c =
 
 pub returns-in-Taking : goal.returns-in-Taking
 returns-in-Taking c = record {
-  went = subst (λ t. Went c.args.guest c.args.most t c.take.new.turn c.args.board.now
+  went = subst (λ t. Went c.args.guest c.args.most (stand_of t) c.args.board.now t
+      c.take.new.turn c.args.board.now
       c.take.new.board c.take.result) (c.next_part.ensures.none c.in_default.is).1
       c.take.ensures.went;
 }
 
 pub returns-in-Leaving : goal.returns-in-Leaving
 returns-in-Leaving c = record {
-  went = subst (λ t. Went c.args.guest c.args.most t c.leave.new.turn c.args.board.now
+  went = subst (λ t. Went c.args.guest c.args.most (stand_of t) c.args.board.now t
+      c.leave.new.turn c.args.board.now
       c.leave.new.board c.leave.result) (c.next_part.ensures.none c.in_default.is).1
       c.leave.ensures.went;
 }
@@ -51,7 +55,8 @@ call-requires-clause-parts c =
 
 pub returns-in-Notifying : goal.returns-in-Notifying
 returns-in-Notifying c = record {
-  went = subst (λ t. Went c.args.guest c.args.most t c.call.new.turn c.args.board.now
+  went = subst (λ t. Went c.args.guest c.args.most (stand_of t) c.args.board.now t
+      c.call.new.turn c.args.board.now
       c.call.new.board c.call.result) (c.next_part.ensures.none c.in_default.is).1
       c.call.ensures.went;
 }

@@ -1,7 +1,8 @@
 use Rattle.std.proofs.Common.{[], inl, refl, ap, sym, subst, ◌∙◌, IfSome, Ok, true, false}
 use Rattle.machine.proofs.Common.{Calls, Runs, owing, stand_of, standing}
 use Rattle.mmio_transport.specs.Asking.{Notifies}
-use Rattle.machine.specs.Ending.{AsksIn, SawAll}
+use Rattle.machine.specs.Ending.{SawAll}
+use Rattle.machine.specs.Serving.{AsksIn}
 use Rattle.machine.specs.Serving.{Sees}
 use Rattle.machine.proofs.Goings.{not_notified, notify_asks, saw_all}
 use Rattle.machine.proofs.Moved.{moved, moved_at, moved_none, moved_runs, moved_same}

@@ -1,9 +1,10 @@
-use Rattle.std.proofs.Common.{inl, refl, subst, ◌∙◌, Some}
+use Rattle.std.proofs.Common.{inl, refl, subst, ◌∙◌, Some, arith}
 use Rattle.machine.proofs.Common.{Still, stand_of}
 use Rattle.machine.specs.Ending.{Went}
 use Rattle.machine.proofs.Goings.{went_after, went_by}
 use Rattle.machine.proofs.Limits.{limit_same, limit_twice}
-use Rattle.machine.proofs.Runs.{runs_twice, then_does}
+use Rattle.machine.proofs.Runs.{runs_twice}
+use Rattle.machine.specs.Serving.{DoesMore, DoesNone}
 use Rattle.machine.proofs.serving.serve.Goals as goal
 
 pub loop-move-init : goal.loop-move-init
@@ -13,6 +14,8 @@ loop-move-init c =
       refl,
       refl,
       limit_same c.args.guest c.args.most b.rest b.rest refl,
+      DoesNone _ (stand_of c.args.turn.now) (stand_of c.args.turn.now) b b refl
+          (Still (stand_of c.args.turn.now) b),
     )
 
 pub returns-in-Some : goal.returns-in-Some
@@ -22,14 +25,16 @@ returns-in-Some c =
       went = went_after c.args.guest c.args.most c.args.turn.now l.turn c.move_on.new.turn
           c.args.board.now l.board c.move_on.new.board (Some c.in-Some.next) l.invariant.0
           l.invariant.1 l.invariant.2 l.invariant.3
-          (subst (λ n. Went c.args.guest c.args.most l.turn c.move_on.new.turn l.board
+          (subst (λ n. Went c.args.guest c.args.most (stand_of l.turn) l.board l.turn
+          c.move_on.new.turn l.board
           c.move_on.new.board n) c.in-Some.is c.move_on.ensures.went);
     }
 
 pub loop-move-preserved : goal.loop-move-preserved
 loop-move-preserved c =
     let l = c.loop-move in
-    let went = subst (λ n. Went c.args.guest c.args.most l.turn c.move_on.new.turn l.board
+    let went = subst (λ n. Went c.args.guest c.args.most (stand_of l.turn) l.board l.turn
+    c.move_on.new.turn l.board
     c.move_on.new.board n) c.in_default.is c.move_on.ensures.went in (
       runs_twice c.args.guest (stand_of c.args.turn.now) (stand_of l.turn)
           (stand_of c.move_on.new.turn) c.args.board.now l.board c.move_on.new.board l.invariant.0
@@ -38,6 +43,8 @@ loop-move-preserved c =
       went.asked ∙ l.invariant.2,
       limit_twice c.args.guest c.args.most c.args.board.now.rest l.board.rest
           c.move_on.new.board.rest l.invariant.3 went.limit,
+      DoesMore _ l._move (stand_of c.args.turn.now) (stand_of l.turn) (stand_of c.move_on.new.turn)
+          c.args.board.now l.board c.move_on.new.board refl l.invariant.4 went.busy,
     )
 
 pub returns-in-Some-move_on : goal.returns-in-Some-move_on
@@ -48,7 +55,8 @@ returns-in-Some-move_on c =
       went = went_after c.args.guest c.args.most c.args.turn.now l.turn m.new.turn
           c.args.board.now l.board m.new.board (Some c.in-Some-move_on.next) l.invariant.0
           l.invariant.1 l.invariant.2 l.invariant.3
-          (subst (λ n. Went c.args.guest c.args.most l.turn m.new.turn l.board m.new.board n)
+          (subst (λ n. Went c.args.guest c.args.most (stand_of l.turn) l.board l.turn m.new.turn
+          l.board m.new.board n)
           c.in-Some-move_on.is m.ensures.went);
     }
 
@@ -58,15 +66,20 @@ returns-in-None c =
     let m = c.move_on-2 in
     let g = c.args.guest in
     let a = c.args.board.now in
+    let low = c.loop-move-test.false in
+    let high = l.auto._move-end in
     let s = stand_of c.args.turn.now in
     let t = stand_of l.turn in
     let u = stand_of m.new.turn in
-    let went = subst (λ n. Went g c.args.most l.turn m.new.turn l.board m.new.board n) c.in-None.is
+    let went = subst (λ n. Went g c.args.most t l.board l.turn m.new.turn l.board m.new.board n)
+    c.in-None.is
     m.ensures.went in
     record {
-      went = went_by g c.args.most c.args.turn.now m.new.turn a m.new.board _
+      went = went_by g c.args.most s a c.args.turn.now m.new.turn a m.new.board _
           (runs_twice g s t u a l.board m.new.board l.invariant.0 went.runs) tt
-          (inl (then_does g s t u a l.board m.new.board l.invariant.0 went.busy))
+          (inl (DoesMore 16 l._move s t u a l.board m.new.board (omega (arith, low, high))
+          l.invariant.4
+          went.busy))
           (went.count ∙ l.invariant.1) (went.asked ∙ l.invariant.2)
           (limit_twice g c.args.most a.rest l.board.rest m.new.board.rest l.invariant.3 went.limit);
     }

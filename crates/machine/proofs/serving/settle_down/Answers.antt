@@ -1,9 +1,10 @@
 use Rattle.std.proofs.Common.{◌≡◌, ◌≤◌, ℕ, [], Some, inl, refl, ap, sym, subst, ◌∙◌, length, map}
 use Rattle.board.specs.State.{waiting}
 use Rattle.machine.proofs.Common.{Boards, Runs, Stand, stand_of, standing}
-use Rattle.machine.specs.Ending.{IsHandedOn, Lacks, NotifiesNext, left_by}
+use Rattle.machine.specs.Ending.{IsHandedOn, NotifiesNext, left_by}
+use Rattle.machine.specs.declared.fault.MachineFault.TheVariants as fault
 use Rattle.machine.specs.Serving.{DoesSome, HasNoReply, KeepsLimit, KeepsWaiting}
-use Rattle.machine.proofs.Goings.{ended_same, notified_busy, notified_needs, went_after, went_by}
+use Rattle.machine.proofs.Goings.{ended_on, lacks, notified_busy, notified_needs, went_by, went_on}
 use Rattle.machine.proofs.Handed.{handed_same}
 use Rattle.machine.proofs.Limits.{limit_kept, limit_twice}
 use Rattle.machine.proofs.Popping.{gives_up}
@@ -40,7 +41,8 @@ pub returns-then-hand_all : goal.returns-then-hand_all
 returns-then-hand_all c =
     let t = c.args.turn.now in
     record {
-      went = λ most ended. went_by c.args.guest most t t c.args.board.now c.hand_all.new.board _
+      went = λ most s z ended. went_by c.args.guest most s z t t c.args.board.now
+          c.hand_all.new.board _
           (c.hand_all.ensures.runs (stand_of t)) tt
           (c.hand_all.ensures.did c.if-hand_all.true (stand_of t))
           (ap length c.hand_all.ensures.devices) refl
@@ -57,7 +59,7 @@ returns-in-Asks c =
     let t = c.args.turn.now in
     let t' = c.go_to.new.self in
     record {
-      went = λ most ended. went_by g most t t' a l.new.board _
+      went = λ most s z ended. went_by g most s z t t' a l.new.board _
           (subst (λ rs. Runs g (stand_of t) a rs l.new.board) (sym (ap stand_of c.go_to.ensures))
           (handed g a h.new.board l.new.board t _ c.requires.parts h.ensures.runs l.ensures.runs))
           (l.ensures.asks c.in-Asks.ask c.in-Asks.is) tt
@@ -76,7 +78,7 @@ returns-in-Did c =
     let t' = c.go_to-in-Did.new.self in
     let same = sym (ap stand_of c.go_to-in-Did.ensures) in
     record {
-      went = λ most ended. went_by g most t t' a l.new.board _
+      went = λ most s z ended. went_by g most s z t t' a l.new.board _
           (subst (λ rs. Runs g (stand_of t) a rs l.new.board) same
           (handed g a h.new.board l.new.board t _ c.requires.parts h.ensures.runs l.ensures.runs))
           tt
@@ -98,12 +100,12 @@ returns-in-NoMemory c =
     let t' = c.take_next.new.self in
     let d = l.new.board in
     record {
-      went = λ most ended. went_by g most t t' a d _
+      went = λ most s z ended. went_by g most s z t t' a d _
           (runs_twice g (stand_of t) (stand_of l.new.turn) (stand_of t') a d d
           (handed g a h.new.board d t _ c.requires.parts h.ensures.runs l.ensures.runs)
           (gives_up g l.new.turn.parts l.new.turn.going (stand_of t') d
           (ap stand_of c.take_next.ensures)))
-          (Lacks refl) tt (l.ensures.count.0 ∙ ap length h.ensures.devices)
+          (lacks g fault.NoMemory s z t' d refl) tt (l.ensures.count.0 ∙ ap length h.ensures.devices)
           (ap (λ v. v.asked) c.take_next.ensures ∙ l.ensures.keeps.1)
           (left_limit g most a h.new.board d h.ensures.keeps l.ensures.count.1);
     }
@@ -134,11 +136,11 @@ returns-in-Some c =
     let none = l.ensures.idle (λ did. absurd (let x = c.in-Nothing.is in let y = did in cc)) in
     let needs = subst (λ o. NotifiesNext g e o) c.in-Some.is n.ensures.needs in
     record {
-      went = λ most ended. went_by g most t t' a e _
+      went = λ most s z ended. went_by g most s z t t' a e _
           (subst (λ o. Runs g (stand_of t) a (left_by o t') e) c.in-Some.is
           (notified g a h.new.board l.new.board e t l.new.turn _ c.requires.parts h.ensures.runs
           l.ensures.runs none n.ensures.runs))
-          (notified_needs g most t'.parts e (Some c.in-Some.next) needs)
+          (notified_needs g most s z t' e (Some c.in-Some.next) needs)
           (notified_busy g most (stand_of t) a e t' c.in-Some.next needs)
           (n.ensures.count ∙ l.ensures.count.0 ∙ ap length h.ensures.devices)
           (n.ensures.asked ∙ l.ensures.keeps.1)
@@ -174,19 +176,21 @@ returns-in-None c =
     let none = l.ensures.idle (λ did. absurd (let x = c.in-Nothing.is in let y = did in cc)) in
     let nothing = l.ensures.nothing c.in-Nothing.is in
     let rest = n.ensures.rest in
+    let keeps = same_waits g b d nothing.2 in
+    let runs : Runs g (stand_of t) a (stand_of t') e =
+    subst (λ o. Runs g (stand_of t) a (left_by o t') e) c.in-None.is
+    (notified g a b d e t l.new.turn _ c.requires.parts h.ensures.runs l.ensures.runs none
+    n.ensures.runs) in
     record {
-      went = λ most ended. went_after g most t t' c.rest.new.turn a e c.rest.new.board _
-          (subst (λ o. Runs g (stand_of t) a (left_by o t') e) c.in-None.is
-          (notified g a b d e t l.new.turn _ c.requires.parts h.ensures.runs l.ensures.runs none
-          n.ensures.runs))
+      went = λ most s z ended. went_on g most s z t t' c.rest.new.turn a e c.rest.new.board _ runs
           (n.ensures.count ∙ l.ensures.count.0 ∙ ap length h.ensures.devices)
           (n.ensures.asked ∙ l.ensures.keeps.1)
           (seen_limit g most a b d e h.ensures.keeps l.ensures.count.1 rest)
-          (c.rest.ensures.went most
-          (ended_same g most d e f (n.ensures.none c.in-None.is).0
-          (ap (λ r. r.jobs) rest, ap (λ r. waiting g r) rest)
-          (ended_same g most b d f (ap (λ ds. map (λ x. x.device) ds) nothing.1)
-          (same_waits g b d nothing.2)
-          (ended_same g most a b f (ap (λ ds. map (λ x. x.device) ds) h.ensures.devices)
-          h.ensures.keeps ended))));
+          (c.rest.ensures.went most s z
+          (ended_on g most s (stand_of t) (stand_of t') z a e f runs
+          ((n.ensures.none c.in-None.is).0
+          ∙ ap (λ ds. map (λ x. x.device) ds) (nothing.1 ∙ h.ensures.devices)) (
+            ap (λ r. r.jobs) rest ∙ keeps.0 ∙ h.ensures.keeps.0,
+            ap (λ r. waiting g r) rest ∙ keeps.1 ∙ h.ensures.keeps.1,
+          ) ended));
     }

@@ -1,9 +1,9 @@
 use Rattle.std.proofs.Common.{◌≡◌, [], ◌∷◌, inl, inr, ap, sym, subst, ◌∙◌}
 use Rattle.machine.proofs.Common.{Boards, Runs, Stand, stand_of, standing}
-use Rattle.machine.specs.Ending.{IsTaken}
+use Rattle.machine.specs.Ending.{IsTaken, Went}
 use Rattle.machine.specs.Serving.{DoesSome}
 use Rattle.machine.specs.Turn.{TurnState}
-use Rattle.machine.proofs.Goings.{went_after, went_by}
+use Rattle.machine.proofs.Goings.{went_by, went_on}
 use Rattle.machine.proofs.Runs.{still_on}
 use Rattle.machine.proofs.serving.take.Goals as goal
 
@@ -19,9 +19,11 @@ returns-in-Asks c =
     let o = c.take_one.new in
     let e = c.take_one.ensures in
     record {
-      went = went_by g c.args.most c.args.turn.now o.turn c.args.board.now o.board _
+      went = went_by g c.args.most (stand_of c.args.turn.now) c.args.board.now c.args.turn.now
+          o.turn c.args.board.now o.board _
           (from g c.args.turn.now c.args.board.now o.board _ c.requires.parts e.runs)
-          (subst (λ k. IsTaken g c.args.most o.turn.parts o.board k) c.in-Asks.is e.taken).0
+          (subst (λ k. IsTaken g c.args.most (standing [] c.args.turn.now.going) c.args.board.now
+          o.turn o.board k) c.in-Asks.is e.taken).0
           tt e.count e.keeps.1 e.limit;
     }
 
@@ -35,7 +37,7 @@ returns-in-Some c =
     let t' = c.next_part.new.self in
     let part = c.in-Some.part in
     record {
-      went = went_by g c.args.most t t' a o.board _
+      went = went_by g c.args.most (stand_of t) a t t' a o.board _
           (still_on g (stand_of t) (stand_of o.turn) (standing (part ∷ t'.parts) t'.going) a o.board
           (ap (λ v. standing (part ∷ t'.parts) v.going) c.next_part.ensures.rest
           ∙ ap (λ ps. standing ps o.turn.going) (sym c.in-Some.ensures.some))
@@ -58,7 +60,7 @@ returns-in-None c =
       | inr parts ↦ absurd (parts none.0)
     ] in
     record {
-      went = went_by g c.args.most t t' a o.board _
+      went = went_by g c.args.most (stand_of t) a t t' a o.board _
           (subst (λ v. Runs g (stand_of t) a (stand_of v) o.board) (sym none.1)
           (from g t a o.board _ c.requires.parts e.runs))
           tt
@@ -70,40 +72,50 @@ returns-in-None c =
 
 pub settle_down-requires-clause-parts : goal.settle_down-requires-clause-parts
 settle_down-requires-clause-parts c =
-    (subst (λ k. IsTaken c.args.guest c.args.most c.take_one.new.turn.parts c.take_one.new.board k)
+    (subst (λ k. IsTaken c.args.guest c.args.most (standing [] c.args.turn.now.going)
+    c.args.board.now c.take_one.new.turn c.take_one.new.board k)
     c.in-Nothing.is c.take_one.ensures.taken).1
 
 pub returns-in-Nothing : goal.returns-in-Nothing
 returns-in-Nothing c =
     let g = c.args.guest in
+    let most = c.args.most in
+    let t = c.args.turn.now in
+    let a = c.args.board.now in
     let o = c.take_one.new in
     let e = c.take_one.ensures in
-    let s = c.settle_down.new in
+    let d = c.settle_down in
     record {
-      went = went_after g c.args.most c.args.turn.now o.turn s.turn c.args.board.now o.board s.board
-          c.settle_down.result
-          (from g c.args.turn.now c.args.board.now o.board _ c.requires.parts e.runs)
-          e.count e.keeps.1 e.limit
-          (c.settle_down.ensures.went c.args.most
-          (subst (λ k. IsTaken g c.args.most o.turn.parts o.board k) c.in-Nothing.is e.taken).0);
+      went = went_on g most (stand_of t) a t o.turn d.new.turn a o.board d.new.board d.result
+          (from g t a o.board _ c.requires.parts e.runs) e.count e.keeps.1 e.limit
+          (subst (λ ps. Went g most (standing ps t.going) a o.turn d.new.turn o.board d.new.board
+          d.result) (sym c.requires.parts)
+          (d.ensures.went most (standing [] t.going) a
+          (subst (λ k. IsTaken g most (standing [] t.going) a o.turn o.board k) c.in-Nothing.is
+          e.taken).0));
     }
 
 pub settle_down-requires-in-Refused-clause-parts : goal.settle_down-requires-in-Refused-clause-parts
 settle_down-requires-in-Refused-clause-parts c =
-    (subst (λ k. IsTaken c.args.guest c.args.most c.take_one.new.turn.parts c.take_one.new.board k)
+    (subst (λ k. IsTaken c.args.guest c.args.most (standing [] c.args.turn.now.going)
+    c.args.board.now c.take_one.new.turn c.take_one.new.board k)
     c.in-Refused.is c.take_one.ensures.taken).1
 
 pub returns-in-Refused : goal.returns-in-Refused
 returns-in-Refused c =
     let g = c.args.guest in
+    let most = c.args.most in
+    let t = c.args.turn.now in
+    let a = c.args.board.now in
     let o = c.take_one.new in
     let e = c.take_one.ensures in
-    let s = c.settle_down-in-Refused.new in
+    let d = c.settle_down-in-Refused in
     record {
-      went = went_after g c.args.most c.args.turn.now o.turn s.turn c.args.board.now o.board s.board
-          c.settle_down-in-Refused.result
-          (from g c.args.turn.now c.args.board.now o.board _ c.requires.parts e.runs)
-          e.count e.keeps.1 e.limit
-          (c.settle_down-in-Refused.ensures.went c.args.most
-          (subst (λ k. IsTaken g c.args.most o.turn.parts o.board k) c.in-Refused.is e.taken).0);
+      went = went_on g most (stand_of t) a t o.turn d.new.turn a o.board d.new.board d.result
+          (from g t a o.board _ c.requires.parts e.runs) e.count e.keeps.1 e.limit
+          (subst (λ ps. Went g most (standing ps t.going) a o.turn d.new.turn o.board d.new.board
+          d.result) (sym c.requires.parts)
+          (d.ensures.went most (standing [] t.going) a
+          (subst (λ k. IsTaken g most (standing [] t.going) a o.turn o.board k) c.in-Refused.is
+          e.taken).0));
     }

@@ -1,6 +1,7 @@
 use Rattle.std.proofs.Common.{ap, arith, inl, inr, [], true}
 use Rattle.board.specs.State.{waiting}
 use Rattle.machine.proofs.Common.{stand_of, standing}
+use Rattle.machine.proofs.Goings.{taken_after}
 use Rattle.machine.proofs.Runs.{runs_twice, then_does}
 use Rattle.machine.proofs.taking.look.Goals as goal
 
@@ -23,3 +24,9 @@ returns-clause-waits c =
     let more = c.pop.ensures.waits in
     let same = ap (λ r. waiting c.args.guest r) c.begin_pop.ensures.rest in
     omega (arith, more, same)
+
+pub returns-clause-taken : goal.returns-clause-taken
+returns-clause-taken c most =
+    taken_after c.args.guest most (standing [] c.args.turn.now.going) (standing [] true)
+    c.args.board.now c.begin_pop.new.board c.pop.new.turn c.pop.new.board c.pop.result
+    c.begin_pop.ensures.runs (c.pop.ensures.taken most)

@@ -1,6 +1,6 @@
 use Rattle.std.proofs.Common.{inl, inr, refl, ap, sym, subst, ◌∙◌, [], Ok, Err, true, false}
 use Rattle.std.proofs.Common.{arith}
-use Rattle.machine.proofs.Common.{Makes, outbox_state, OutboxMakes, stand_of, standing}
+use Rattle.machine.proofs.Common.{Makes, outbox_state, OutboxMakes, Still, stand_of, standing}
 use Rattle.board.specs.Asking.{PopsAsked}
 use Rattle.board.specs.State.{waiting}
 use Rattle.board.specs.Steps.{did_answer}
@@ -44,8 +44,10 @@ pub returns-in-Err-Refused-clause-taken : goal.returns-in-Err-Refused-clause-tak
 returns-in-Err-Refused-clause-taken c most =
     let makes = subst (λ e. PopsAsked outbox_state OutboxMakes c.args.guest (Err e)
     c.args.board.now c.pop.new.self) c.in-Err-Refused.field-0-is c.in-Err-Refused.ensures.pops in (
-      Refuses c.args.board.now c.pop.new.self (step.Pop c.args.guest)
-          (fault.Device c.in-Err-Refused.fault) (inl refl) makes c.of_device.ensures,
+      Refuses (standing [] true) (stand_of c.stop.new.self) c.args.board.now c.pop.new.self
+          (step.Pop c.args.guest) (fault.Device c.in-Err-Refused.fault)
+          (Still (standing [] true) c.args.board.now) (inl refl) makes c.of_device.ensures
+          (Still (stand_of c.stop.new.self) c.pop.new.self),
       ap (λ t. t.parts) c.stop.ensures,
     )
 
@@ -95,12 +97,33 @@ returns-in-Ok-false-clause-taken c most =
     let g = c.args.guest in
     let makes = subst (λ did. Makes (step.Pop g) (did_answer did) c.args.board.now c.pop.new.self)
     c.in-Ok-false.field-0-test c.in-Ok-false.ensures.pops in
+    let device = some_at c.args.board.now.devices g c.requires.guest in
     let found = found_none g c.args.board.now c.pop.new.self c.what_always_holds.ensures
     c.requires.guest c.requires.job makes in
-    let taken_ : Taken → Type 0 = λ t. IsTaken g most c.found_none.new.turn.parts c.pop.new.self t in
+    let taken_ : Taken → Type 0 = λ t. IsTaken g most (standing [] true) c.args.board.now
+    c.found_none.new.turn c.pop.new.self t in
     elim c.found_none.ensures.either [
       | inl nothing ↦ subst taken_ (sym nothing) (
-        (found.1, inl found.0),
+        (
+          found.1,
+          inl (
+            found.0,
+            record {
+              before = c.args.board.now;
+              first = Still (standing [] true) c.args.board.now;
+              parts = [];
+              after = c.pop.new.self;
+              pops = record {
+                makes = makes;
+                device = device.0;
+                its = device.1;
+                parts_are = inr (refl, (λ same. absurd (let no = same in cc)));
+              };
+              behind = stand_of c.found_none.new.turn;
+              rest = Still (stand_of c.found_none.new.turn) c.pop.new.self;
+            },
+          ),
+        ),
         c.found_none.ensures.nothing (λ did. absurd (let no = nothing in let yes = did in cc)),
       )
       | inr did ↦ subst taken_ (sym did) tt

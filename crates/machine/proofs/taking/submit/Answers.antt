@@ -1,7 +1,7 @@
 use Rattle.std.proofs.Common.{◌≡◌, ◌<◌, inl, inr, refl, sym, subst, ℕ, Option, None, Some}
 use Rattle.std.proofs.Common.{Ok, IsSome, length, arith, Bool, false, true}
 use Rattle.machine.proofs.Common.{slice_get, Boards, IsSound, Job, Makes, SubmitsFrom}
-use Rattle.machine.proofs.Common.{Tally}
+use Rattle.machine.proofs.Common.{Still, Tally}
 use Rattle.machine.proofs.Common.{OutboxState, board_of, in_place, outbox_state, AskingState}
 use Rattle.board.proofs.Common.{length-map}
 use Rattle.board.specs.Steps.{answer_by, did_answer}
@@ -71,8 +71,9 @@ pub returns-in-Err-clause-either : goal.returns-in-Err-clause-either
 returns-in-Err-clause-either c = inr (record {
   why = c.of_book.result;
   is = refl;
-  reason = Refuses c.args.board.now c.submit.new.self (step.Submit c.args.guest)
-      (fault.Book c.in-Err.refused) (inr refl)
+  reason = λ s. Refuses s s c.args.board.now c.submit.new.self (step.Submit c.args.guest)
+      (fault.Book c.in-Err.refused) (Still s c.args.board.now) (inr refl)
       (subst (λ r. Makes (step.Submit c.args.guest) (answer_by fault.Book r) c.args.board.now
-      c.submit.new.self) c.in-Err.is c.submit.ensures.steps) c.of_book.ensures;
+      c.submit.new.self) c.in-Err.is c.submit.ensures.steps) c.of_book.ensures
+      (Still s c.submit.new.self);
 })

@@ -1,6 +1,6 @@
-use Rattle.std.proofs.Common.{ap, inl, inr, refl, rules, subst, sym}
+use Rattle.std.proofs.Common.{[], ap, inl, inr, refl, rules, subst, sym}
 use Rattle.machine.proofs.Common.{stand_of, standing}
-use Rattle.machine.specs.Ending.{IsTaken}
+use Rattle.machine.specs.Ending.{HasReason, IsTaken}
 use Rattle.machine.specs.declared.taking.Taken.{Taken}
 use Rattle.machine.specs.Serving.{DoesSome}
 use Rattle.machine.proofs.Limits.{limit_one, limit_same}
@@ -9,11 +9,17 @@ use Rattle.machine.proofs.taking.take_one.Goals as goal
 
 pub returns-then-is_some-clause-taken : goal.returns-then-is_some-clause-taken
 returns-then-is_some-clause-taken c =
+    let t = c.args.turn.now in
+    let s = standing [] t.going in
     let taken_ : Taken → Type 0 =
-    λ t. IsTaken c.args.guest c.args.most c.args.turn.now.parts c.submit.new.board t in
+    λ k. IsTaken c.args.guest c.args.most s c.args.board.now t c.submit.new.board k in
     elim c.submit.ensures.either [
       | inl did ↦ subst taken_ (sym did) tt
-      | inr refused ↦ subst taken_ (sym refused.is) (refused.reason, c.requires.parts)
+      | inr refused ↦ subst taken_ (sym refused.is) (
+        subst (λ ps. HasReason c.args.guest refused.why s c.args.board.now (standing ps t.going)
+            c.submit.new.board) (sym c.requires.parts) (refused.reason s),
+        c.requires.parts,
+      )
     ]
 
 pub returns-then-is_some-clause-did : goal.returns-then-is_some-clause-did

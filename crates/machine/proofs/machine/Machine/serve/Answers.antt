@@ -1,10 +1,7 @@
-use Rattle.std.proofs.Common.{◌≡◌, ◌∙◌, ℕ, Some, ap, false, sym, subst, length, arith, rules}
-use Rattle.machine.proofs.Common.{slice_get_read, IsServed, MachineState, slice_get, slice_set}
-use Rattle.machine.specs.Ending.{HearsAnswer}
-use Rattle.machine.specs.declared.fault.MachineFault.TheVariants as fault
-use Rattle.machine.specs.declared.serving.Next.TheVariants as next
-use Rattle.machine.specs.Machine.{IsTold, TellsOf, has_guest, left_of, turn_in, turn_of}
-use Rattle.machine.proofs.Completing.{hears, serves, serves_none}
+use Rattle.std.proofs.Common.{◌≡◌, ◌∙◌, ap, false, sym, subst, arith, rules}
+use Rattle.machine.proofs.Common.{slice_get_read, IsServed, MachineState, slice_set}
+use Rattle.machine.specs.Machine.{TellsOf, has_guest}
+use Rattle.machine.proofs.Completing.{serves, serves_none}
 use Rattle.machine.proofs.Popping.{some_at}
 use Rattle.machine.proofs.Told.{has_all, no_device, no_setup, no_turn, tells_absent, tells_of}
 use Rattle.machine.proofs.Told.{tells_room}
@@ -34,58 +31,9 @@ returns-then-at-len-clause-tells c =
           (let past = w.if-at-guests.true in let long = w.guests.ensures in
           no_device m g (omega (arith, past, long, same)))
     ] in
-    tells_absent c.args.self.now g (length c.args.bytes.now) c.served.result c.args.bytes.now
+    tells_absent c.args.self.now g c.args.is_there c.args.bytes.now c.served.result c.args.bytes.now
     (ap (λ (x : MachineState). has_guest x g) (sym c.self.view_is) ∙ gone)
     c.served.ensures.next c.served.ensures.sync c.served.ensures.waiting
-
-pub returns-then-at-len-clause-heard : goal.returns-then-at-len-clause-heard
-returns-then-at-len-clause-heard c there room =
-    let m : MachineState = record {
-      board = c.self.inside.board;
-      setups = c.self.inside.setups.items;
-      turns = c.self.inside.turns.items;
-    } in
-    let g = c.args.guest in
-    let same = c.from-at.ensures in
-    let gone : has_guest m g ≡ false = elim c.then-at-len.branch [
-      | then-at-len-via-then-at-len w ↦ (let past = w.if-at-len.true in let long = c.len.ensures in
-          no_setup m g (omega (arith, past, long, same)))
-      | then-at-len-via-else-at-len+then-at-len-2 w ↦ (let past = w.if-at-len-2.true in
-          let long = w.len-else-at-len.ensures in no_turn m g (omega (arith, past, long, same)))
-      | then-at-len-via-else-at-len+else-at-len-2+then-at-guests w ↦
-          (let past = w.if-at-guests.true in let long = w.guests.ensures in
-          no_device m g (omega (arith, past, long, same)))
-    ] in
-    absurd (let no = ap (λ (x : MachineState). has_guest x g) (sym c.self.view_is) ∙ gone in
-    let yes_ = sym there ∙ no in cc)
-
-pub returns-then-bytes-lt-LARGEST_PART-clause-heard : goal.returns-then-bytes-lt-LARGEST_PART-clause-heard
-returns-then-bytes-lt-LARGEST_PART-clause-heard c there room =
-    absurd (let short = c.if-bytes-lt-LARGEST_PART.true in omega (arith, short, room))
-
-pub returns-clause-heard : goal.returns-clause-heard
-returns-clause-heard c there room =
-    let g = c.args.guest in
-    let m : MachineState = record {
-      board = c.self.inside.board;
-      setups = c.self.inside.setups.items;
-      turns = c.self.inside.turns.items;
-    } in
-    let s = c.serve_turn-next in
-    let its = slice_get_read m.turns c.len-else-at-len.result g c.index_mut-turn.result.now
-    (search rules) (search rules) (search rules) in
-    let answered : MachineState → ℕ → Type 0 = λ x k. HearsAnswer g (turn_of x g).asked
-    c.args.is_there c.args.bytes.now x.board
-    (left_of c.served-2.result.what c.served-2.result.at c.served-2.result.len
-    (turn_in (slice_get (slice_set m.turns k s.new.turn) g))) s.new.board
-    (c.served-2.result.fault ≡ Some fault.NoMemory) in
-    subst (λ x. answered x c.from-at.result) c.self.view_is
-    (subst (λ k. answered m k) (sym c.from-at.ensures)
-    (hears g m c.index_mut-turn.result.now s.new.turn s.new.board c.args.is_there c.args.bytes.now
-    (s.result ≡ next.Rest (Some fault.NoMemory)) (c.served-2.result.fault ≡ Some fault.NoMemory)
-    s.result c.served-2.result c.served-2.ensures.next
-    (λ is. (subst (λ n. IsTold n c.served-2.result) is c.served-2.ensures.next).1)
-    its s.ensures.heard))
 
 pub returns-then-bytes-lt-LARGEST_PART-clause-served : goal.returns-then-bytes-lt-LARGEST_PART-clause-served
 returns-then-bytes-lt-LARGEST_PART-clause-served c = serves_none c.args.guest c.args.self.now
@@ -110,7 +58,7 @@ returns-then-bytes-lt-LARGEST_PART-clause-tells c =
     let turn = some_at m.turns g (omega (arith, in_turns, many_turns, same)) in
     let device = some_at m.board.devices g (omega (arith, in_devices, many_devices, same)) in
     let short = c.if-bytes-lt-LARGEST_PART.true in
-    tells_room c.args.self.now g (length c.args.bytes.now) s.result c.args.bytes.now
+    tells_room c.args.self.now g c.args.is_there c.args.bytes.now s.result c.args.bytes.now
     (ap (λ (x : MachineState). has_guest x g) (sym c.self.view_is)
     ∙ has_all m g setup.0 turn.0 device.0 setup.1 turn.1 device.1) (omega (arith, short))
     s.ensures.next s.ensures.sync s.ensures.waiting
@@ -134,7 +82,8 @@ returns-clause-served c =
       board = s.new.board;
       turns = slice_set m.turns k s.new.turn;
     })) (sym c.from-at.ensures)
-    (serves g m c.index_mut-turn.result.now s.new.turn s.new.board _ its s.ensures.runs))
+    (serves g m c.index_mut-turn.result.now s.new.turn s.ensures.heard.left _ s.ensures.heard.heard
+    s.new.board its s.ensures.heard.begins s.ensures.heard.runs))
 
 pub returns-clause-tells : goal.returns-clause-tells
 returns-clause-tells c =
@@ -153,18 +102,18 @@ returns-clause-tells c =
     let long = c.guests.ensures in
     let same = c.from-at.ensures in
     let device = some_at m.board.devices g (omega (arith, below, long, same)) in
-    let room = length c.args.bytes.now in
-    subst (λ (x : MachineState). TellsOf g room c.served-2.result s.new.bytes x (record m {
+    let there = c.args.is_there in
+    let given = c.args.bytes.now in
+    subst (λ (x : MachineState). TellsOf g there given c.served-2.result s.new.bytes x (record m {
       board = s.new.board;
       turns = slice_set m.turns c.from-at.result s.new.turn;
     })) c.self.view_is
-    (subst (λ k. TellsOf g room c.served-2.result s.new.bytes m (record m {
+    (subst (λ k. TellsOf g there given c.served-2.result s.new.bytes m (record m {
       board = s.new.board;
       turns = slice_set m.turns k s.new.turn;
     })) (sym same)
-    (tells_of m g room c.most-most.result c.index.result.now c.index_mut-turn.result.now s.new.turn
-    s.new.board s.new.bytes s.result c.served-2.result setup its
+    (tells_of m g c.most-most.result c.index.result.now c.index_mut-turn.result.now s.new.turn there
+    given s.new.board s.new.bytes s.result c.served-2.result setup its
     (has_all m g c.index.result.now c.index_mut-turn.result.now device.0 setup its device.1)
-    c.most-most.ensures c.served-2.ensures.next s.ensures.runs s.ensures.needs s.ensures.busy
-    s.ensures.limit c.served-2.ensures.sync
-    c.served-2.ensures.waiting))
+    c.most-most.ensures c.served-2.ensures.next s.ensures.heard s.ensures.limit
+    c.served-2.ensures.sync c.served-2.ensures.waiting))
