@@ -7,9 +7,9 @@ use Rattle.guest_memory.specs.declared.fault.MemFault.{MemFault}
 use Rattle.mmio_transport.specs.Asking.{after_told}
 use Rattle.board.proofs.Doing.{set_same}
 use Rattle.machine.specs.Ending.{TellsIn}
-use Rattle.machine.specs.Serving.{Learns, QueuesStay, SameDevices, Tells}
+use Rattle.machine.specs.Serving.{IsToWrite, Learns, QueuesStay, SameDevices, Tells}
 use Rattle.machine.proofs.Common.{Still}
-use Rattle.std.specs.Prelude.{All, Result, Ok, Err, OnOk, OnErr}
+use Rattle.std.specs.Prelude.{All, Result, Ok, Err, OnOk, OnErr, length, ◌≤◌}
 use Rattle.machine.proofs.Runs.{runs_knows}
 
 -- the board with another device of a guest
@@ -19,7 +19,8 @@ moved b guest d = record b { devices = slice_set b.devices guest d }
 module _ (guest : ℕ) (b : Boards) (d d' : AskingState)
     (its : slice_get b.devices guest ≡ Some d) where
   pub moved_runs : (ps : List Range) (g h : Bool) → (g ≡ false → h ≡ true → ps ≡ [])
-      → Learns g d h d' → Runs guest (standing ps g) b (standing ps h) (moved b guest d')
+      → Learns guest b g d h d'
+      → Runs guest (standing ps g) b (standing ps h) (moved b guest d')
   moved_runs ps g h none learns = runs_knows guest ps g h b (moved b guest d') none (record {
     device = d;
     its = its;
@@ -43,14 +44,14 @@ module _ (guest : ℕ) (b : Boards) (d d' : AskingState)
       (ap (slice_set b.devices guest) same ∙ set_same b.devices guest d its)
 
   -- bytes were told, or there was no memory for them
-  pub told_runs : {X : Type 0} (ps : List Range) (g : Bool) (at : ℕ) (zeros : List ℕ)
-      (r : Result X MemFault) → All (λ v. v ≡ 0) zeros → OnOk r (d' ≡ after_told d at zeros)
-      → OnErr r (d' ≡ d)
+  pub told_runs : {X : Type 0} (ps : List Range) (g : Bool) (part : Range) (zeros : List ℕ)
+      (r : Result X MemFault) → IsToWrite guest b d part → length zeros ≤ part.len
+      → All (λ v. v ≡ 0) zeros → OnOk r (d' ≡ after_told d part.at zeros) → OnErr r (d' ≡ d)
       → Runs guest (standing ps g) b (standing ps g) (moved b guest d')
-  told_runs ps g at zeros (Ok x) all ok err =
+  told_runs ps g part zeros (Ok x) own few all ok err =
       moved_runs ps g g (λ off on. absurd (let a = off in let b_ = on in cc))
-      (Tells g d d' at zeros all ok)
-  told_runs ps g at zeros (Err e) all ok err =
+      (Tells g d d' part zeros own few all ok)
+  told_runs ps g part zeros (Err e) own few all ok err =
       subst (λ v. Runs guest (standing ps g) b (standing ps g) v) (sym (moved_none err))
       (Still (standing ps g) b)
 

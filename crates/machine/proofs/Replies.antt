@@ -1,8 +1,8 @@
 -- What a reply that is handed to its device is to copy out.
-use Rattle.std.proofs.Common.{◌≡◌, ◌<◌, ◌≤◌, ap, sym, subst, ◌∙◌, ℕ, ◌+◌, ◌-◌, List, [], ◌++◌}
+use Rattle.std.proofs.Common.{◌≡◌, ◌<◌, ◌≤◌, refl, ap, sym, subst, ◌∙◌, ℕ, ◌+◌, ◌-◌, List, [], ◌++◌}
 use Rattle.std.proofs.Common.{Option, Some, length, map, get_or, drop, IfSome, Bool, true, false}
 use Rattle.std.proofs.lemmas.List.{at_drop_all, drop_more}
-use Rattle.std.specs.Prelude.{option_map}
+use Rattle.std.specs.Prelude.{option_map, IsSome, None}
 use Rattle.machine.proofs.Common.{slice_get, AskingState, Boards, Done, Hands, HandsReply}
 use Rattle.machine.proofs.Common.{OutboxMakes, Range, Runs, Still, in_place, outbox_state}
 use Rattle.machine.proofs.Common.{standing}
@@ -10,7 +10,7 @@ use Rattle.board.proofs.Common.{append-nil, append_assoc, slice_get-map}
 use Rattle.mmio_transport.specs.Queue.{QueueState}
 use Rattle.mmio_transport.specs.Written.{queue_parts}
 use Rattle.mmio_transport.specs.declared.done.Published.{Published}
-use Rattle.machine.specs.Serving.{ByReply, DoesSome, IsNoted}
+use Rattle.machine.specs.Serving.{ByReply, DoesSome, IsNoted, QueuesStay, due_parts}
 use Rattle.machine.specs.Turn.{filled_part, filled_parts, reply_parts}
 
 pub hands_by : (guest : ℕ) (qs : List Range) (v : Bool) (published : Published) (b b' : Boards)
@@ -81,3 +81,26 @@ pub noted_in_turn : (p0 p1 p2 p3 filled ws is : List Range) → p0 ≡ [] → p1
 noted_in_turn p0 p1 p2 p3 filled ws is none first second third =
     third ∙ ap (λ p. p ++ is) (second ∙ ap (λ p. p ++ ws) (first ∙ ap (λ p. p ++ filled) none))
     ∙ append_assoc filled ws is
+
+-- where the device alone was told bytes, what was noted is what it is to write
+pub noted_same : (guest : ℕ) (ps : List Range) (a b : Boards) → b.rest ≡ a.rest
+    → QueuesStay a b → IsNoted guest ps a → IsNoted guest ps b
+noted_same guest ps a b rest queues noted =
+    subst (λ r. IfSome (in_place (slice_get r.dones guest)) (λ done.
+    IfSome (slice_get (map (λ x. x.device.queue) b.devices) guest) (λ queue.
+    ps ≡ filled_parts done.writable (length done.reply) ++ queue_parts queue))) (sym rest)
+    (subst (λ (qs : List (Option QueueState)). IfSome (in_place (slice_get a.rest.dones guest))
+    (λ done. IfSome (slice_get qs guest) (λ queue.
+    ps ≡ filled_parts done.writable (length done.reply) ++ queue_parts queue))) (sym queues) noted)
+
+some_in : {X : Type 0} (o : Option X) → IsSome o → (x : X) × (o ≡ Some x)
+some_in None is = absurd (let no = is in cc)
+some_in (Some x) is = (x, refl)
+
+pub due_noted : (guest : ℕ) (ps : List Range) (b : Boards) (d : AskingState)
+    → IsSome (in_place (slice_get b.rest.dones guest)) → IsNoted guest ps b
+    → slice_get b.devices guest ≡ Some d
+    → due_parts (in_place (slice_get b.rest.dones guest)) d.device ≡ ps
+due_noted guest ps b d lies noted its =
+    let done = some_in (in_place (slice_get b.rest.dones guest)) lies in
+    ap (λ o. due_parts o d.device) done.1 ∙ sym (noted_reply guest ps b d done.0 noted done.1 its)

@@ -1,7 +1,7 @@
 -- What serving a guest does to a board, in steps, and what it leaves of the other guests.
 use Rattle.std.specs.Prelude.{◌≡◌, ◌≢◌, ◌⊎◌, ◌<◌, ◌≤◌, ◌+◌, ◌^◌, ◌-◌, ℕ, Bool, List, [], slice_get}
 use Rattle.std.specs.Prelude.{slice_set, Some, None, Ok, true, false, IfSome, map, length, ◌++◌}
-use Rattle.std.specs.Prelude.{◌∷◌, All}
+use Rattle.std.specs.Prelude.{◌∷◌, All, Option}
 use Rattle.chains.specs.declared.range.Range.{Range}
 use Rattle.disk.specs.Outbox.{has_room}
 use Rattle.disk.specs.OutboxDisk.{OutboxMakes, OutboxState, outbox_state}
@@ -10,6 +10,9 @@ use Rattle.flusher.specs.declared.progress.Call.{Call}
 use Rattle.flusher.specs.declared.progress.Call.TheVariants as call
 use Rattle.mmio_transport.specs.Asking.{AskingState, Notifies, after_told, known}
 use Rattle.mmio_transport.specs.Popping.{with_fault}
+use Rattle.mmio_transport.specs.Device.{DeviceState}
+use Rattle.mmio_transport.specs.Job.{Done}
+use Rattle.mmio_transport.specs.Queue.{popped_by}
 use Rattle.mmio_transport.specs.Written.{queue_parts}
 use Rattle.mmio_transport.specs.declared.done.Published.{Published}
 use Rattle.guest_memory.specs.Memory.{IsAsk, IsHeld, kept}
@@ -71,14 +74,29 @@ IsShare guest (step.Give g) b = g ≡ guest
 IsShare guest step.Advance b = MayWrite b.rest
 IsShare guest step.Settle b = Unit {0}
 
--- What a device learns of its guest's memory, or does by itself: zeros were told, for what it is to
--- write; all copies are forgotten, which begins a step of it; or in such a step, which is over then,
--- it saw that its driver isn't to be notified.
-pub data Learns : Bool → AskingState → Bool → AskingState → Type 0 where
-  Tells : (g : Bool) (a a' : AskingState) (at : ℕ) (zeros : List ℕ) → All (λ v. v ≡ 0) zeros
-      → a' ≡ after_told a at zeros → Learns g a g a'
-  Forgets : (a a' : AskingState) → a' ≡ record a { held = kept (known a) } → Learns false a true a'
-  Sees : (a a' : AskingState) → Notifies a (Ok false) a' → Learns true a false a'
+-- what the publication of the reply in its place is to write
+abbrev pub due_parts : Option Done → DeviceState → List Range
+due_parts None d = []
+due_parts (Some done) d =
+    filled_parts done.writable (length done.reply) ++ queue_parts d.queue
+
+-- The guest's device is to write this part: by a pop, or by the publication of the reply in its
+-- place.
+pub data IsToWrite (guest : ℕ) (b : Boards) (a : AskingState) (part : Range) : Type 0 where
+  ByAPop : popped_by a.device.queue ≡ Some part → IsToWrite guest b a part
+  ByAReply : (i : ℕ)
+      → slice_get (due_parts (in_place (slice_get b.rest.dones guest)) a.device) i ≡ Some part
+      → IsToWrite guest b a part
+
+-- What a device learns of its guest's memory, or does by itself: zeros were told for a part that it
+-- is to write; all copies are forgotten, which begins a step of it; or in such a step, which is over
+-- then, it saw that its driver isn't to be notified.
+pub data Learns (guest : ℕ) (b : Boards) : Bool → AskingState → Bool → AskingState → Type 0 where
+  Tells : (g : Bool) (a a' : AskingState) (part : Range) (zeros : List ℕ)
+      → IsToWrite guest b a part → length zeros ≤ part.len → All (λ v. v ≡ 0) zeros
+      → a' ≡ after_told a part.at zeros → Learns guest b g a g a'
+  Forgets : (a a' : AskingState) → a' ≡ record a { held = kept (known a) } → Learns guest b false a true a'
+  Sees : (a a' : AskingState) → Notifies a (Ok false) a' → Learns guest b true a false a'
 
 -- The guest's device learned something, and nothing else changed.
 pub record Knows (guest : ℕ) (going : Bool) (old : Boards) (going' : Bool) (new : Boards)
@@ -86,7 +104,7 @@ pub record Knows (guest : ℕ) (going : Bool) (old : Boards) (going' : Bool) (ne
   pub device : AskingState
   pub its : slice_get old.devices guest ≡ Some device
   pub device' : AskingState
-  pub learns : Learns going device going' device'
+  pub learns : Learns guest old going device going' device'
   pub after : new ≡ record old { devices = slice_set old.devices guest device' }
 
 -- The guest's device saw that its driver is to be notified.

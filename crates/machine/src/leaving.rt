@@ -102,14 +102,17 @@ fn note_reply(board: &AskingBoard<OutboxDisk>, guest: u16, turn: &mut Turn) -> b
 /// Tells zeros for all that was noted: a publication writes over them, so what they were is
 /// nothing to it. Whether there was memory for them.
 fn tell_zeros(board: &mut AskingBoard<OutboxDisk>, guest: u16, turn: &Turn) -> bool
-    requires { guest < length board.old.devices }
+    requires guest { guest < length board.old.devices }
+    requires lies { IsSome (in_place (slice_get board.old.rest.dones guest)) }
+    requires noted { IsNoted guest turn.now.parts board.old }
     ensures runs { (ps : List Part) (g : Bool) → Runs guest (standing ps g) board.old (standing ps g)
         board.new }
     ensures rest { board.new.rest ≡ board.old.rest }
     ensures queues { QueuesStay board.old board.new }
     ensures count { length board.new.devices ≡ length board.old.devices }
 {
-    for part in turn.parts.iter() {
+    for i in 0..turn.parts.len() {
+        let part = turn.parts[i];
         let count = (part.len as usize).min(MOST);
         if board.device(guest).tell(part.at, &ZEROS[..count]).is_err() {
             return false;
@@ -122,6 +125,7 @@ fn tell_zeros(board: &mut AskingBoard<OutboxDisk>, guest: u16, turn: &Turn) -> b
 fn prepare(board: &mut AskingBoard<OutboxDisk>, guest: u16, turn: &mut Turn) -> bool
     requires parts { turn.old.parts ≡ [] }
     requires guest { guest < length board.old.devices }
+    requires lies { IsSome (in_place (slice_get board.old.rest.dones guest)) }
     ensures runs { Runs guest (standing [] turn.old.going) board.old
         (standing [] turn.new.going) board.new }
     ensures begun { result ≡ true → turn.new.going ≡ true }

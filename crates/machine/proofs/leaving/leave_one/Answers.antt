@@ -50,6 +50,11 @@ returns-clause-runs c =
     (runs_step g s c.args.board.now c.collect.new.self (step.Collect g) _ refl
     c.collect.ensures.steps) c.prepare.ensures.runs)) c.publish.ensures.runs
 
+pub prepare-requires-clause-lies : goal.prepare-requires-clause-lies
+prepare-requires-clause-lies c =
+    subst (λ r. IsSome (in_place (slice_get r.dones c.args.guest))) c.rest.ensures
+    (subst (λ o. IsSome o) c.done.ensures (search rules))
+
 pub publish-requires-clause-lies : goal.publish-requires-clause-lies
 publish-requires-clause-lies c =
     subst (λ r. IsSome (in_place (slice_get r.dones c.args.guest))) (sym c.prepare.ensures.rest)

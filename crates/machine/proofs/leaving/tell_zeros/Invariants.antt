@@ -3,8 +3,8 @@ use Rattle.machine.proofs.Common.{Range, Runs, standing}
 use Rattle.machine.specs.Serving.{QueuesStay}
 use Rattle.machine.proofs.leaving.tell_zeros.Given as goal
 
-abbrev pub invariant-loop-part : goal.invariant-loop-part
-invariant-loop-part l = ((ps : List Range) (v : Bool)
+abbrev pub invariant-loop-i : goal.invariant-loop-i
+invariant-loop-i l = ((ps : List Range) (v : Bool)
     → Runs l.fn.guest (standing ps v) l.fn.board (standing ps v) l.board)
     × (l.board.rest ≡ l.fn.board.rest) × QueuesStay l.fn.board l.board
     × (length l.board.devices ≡ length l.fn.board.devices)
