@@ -109,18 +109,20 @@ module _ (g : ℕ) (old new : BoardState OutboxState) where
 pub handed_on : (g : ℕ) (a b d e f : Boards) → Makes step.Settle (Ok Nothing) a b
     → Makes (step.Take g) (Ok Nothing) b d → Makes (step.Give g) (Ok Nothing) d e
     → (e.rest.report ≡ None → (board_of f ≡ board_of e) × HasRoomForNone f.rest)
-    → IsHandedOn g f.rest
+    → IsHandedOn g f.rest × (board_of f ≡ board_of a)
 handed_on g a b d e f settles takes gives writes =
     let told = settles_none _ (board_of a) (board_of b) refl settles.steps.does in
     let took = takes_none g (board_of b) (board_of d) _ refl takes.steps.does in
     let gave = gives_none g (board_of d) (board_of e) _ _ refl refl gives.steps.does in
     let wrote = writes (ap (λ v. v.report) (gave.0 ∙ took.0) ∙ told.1) in
     let none : HasNoneDue g (board_of b) (board_of d) = took.1 in
-    let room = subst (λ v. HasRoomForNone v) wrote.0 wrote.1 in
-    handed_same g e f wrote.0 (record {
-      heard = ap (λ v. v.report) (gave.0 ∙ took.0) ∙ told.1;
-      place = gave.1;
-      due = λ here. ap (λ v. next_intent v.book v.shares g) gave.0
-          ∙ none (sym (ap (λ v. slice_get v.intents g) gave.0) ∙ here);
-      room = room;
-    })
+    let room = subst (λ v. HasRoomForNone v) wrote.0 wrote.1 in (
+      handed_same g e f wrote.0 (record {
+        heard = ap (λ v. v.report) (gave.0 ∙ took.0) ∙ told.1;
+        place = gave.1;
+        due = λ here. ap (λ v. next_intent v.book v.shares g) gave.0
+            ∙ none (sym (ap (λ v. slice_get v.intents g) gave.0) ∙ here);
+        room = room;
+      }),
+      wrote.0 ∙ gave.0 ∙ took.0 ∙ told.0,
+    )

@@ -18,4 +18,5 @@ pub mod Stops
 pub mod Told
 pub mod Waiting
 pub mod Whole
+pub mod Working
 pub mod Writing

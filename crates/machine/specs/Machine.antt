@@ -1,6 +1,6 @@
 -- What contracts see of a machine.
 use Rattle.std.specs.Prelude.{◌≡◌, ◌≢◌, ◌≤◌, ◌<◌, ◌∷◌, ℕ, Bool, true, false, ◌&&◌, if◌then◌else◌}
-use Rattle.std.specs.Prelude.{nat_le}
+use Rattle.std.specs.Prelude.{nat_le, ◌⊎◌}
 use Rattle.std.specs.Prelude.{List, length, take, Option, Some, None, is_some, slice_get, slice_set}
 use Rattle.std.specs.Prelude.{IfSome, []}
 use Rattle.guest_memory.specs.Memory.{bytes_at}
@@ -25,9 +25,9 @@ use Rattle.board.specs.Asking.{board_of}
 use Rattle.board.specs.State.{BoardState, owes}
 use Rattle.board.specs.Telling.{telling}
 use Rattle.board.specs.Moving.{Moves}
-use Rattle.machine.specs.Ending.{Begins, EndsFor, HasHeard, IsBusy, RestsAt}
-use Rattle.machine.specs.Serving.{AsksIn, Boards, FailsNone, Hears, KeepsLimit, OthersStay, Runs}
-use Rattle.machine.specs.Serving.{standing}
+use Rattle.machine.specs.Ending.{Begins, EndsFor, HasHeard, IsBusy, IsHandedOn, RestsAt}
+use Rattle.machine.specs.Serving.{AsksIn, Boards, DoesSome, FailsNone, Hears, KeepsLimit}
+use Rattle.machine.specs.Serving.{OthersStay, Runs, standing}
 use Rattle.machine.specs.Settings.{device_after, most_of, value_shown, value_taken}
 use Rattle.machine.specs.Turn.{Stand, TurnState, fresh_turn, stand_of}
 use Rattle.machine.specs.declared.fault.MachineFault.{MachineFault}
@@ -221,8 +221,21 @@ IsTold (next.Write part) s =
 IsTold next.Call s = (s.what ≡ what.Call) × (s.fault ≡ None)
 IsTold (next.Rest f) s = (s.what ≡ what.Rest) × (s.fault ≡ f)
 
--- the disk's work went further, by steps of its own and of each guest's
+-- On the way from one board to the other something was done among the steps of a guest.
+pub record Works (old new : Boards) : Type 0 where
+  pub guest : ℕ
+  pub stand : Stand
+  pub begins : Boards
+  pub ends : Boards
+  pub before : Moves outbox_state OutboxMakes (board_of old) (board_of begins)
+  pub does : DoesSome guest stand begins stand ends
+  pub behind : Moves outbox_state OutboxMakes (board_of ends) (board_of new)
+
+-- The disk's work went further, by steps of its own and of each guest's: something was done, or all
+-- that was accepted of each guest is handed on.
 pub record GoesOn (old new : MachineState) : Type 0 where
+  pub works : Works old.board new.board
+      ⊎ ((k : ℕ) → k < length old.setups → k < 65536 → IsHandedOn k new.board.rest)
   pub moves : Moves outbox_state OutboxMakes (board_of old.board) (board_of new.board)
   pub whole : FailsNone old.board.rest new.board.rest
   pub devices : new.board.devices ≡ old.board.devices

@@ -88,14 +88,15 @@ pub data IsToWrite (guest : ℕ) (b : Boards) (a : AskingState) (part : Range) :
       → slice_get (due_parts (in_place (slice_get b.rest.dones guest)) a.device) i ≡ Some part
       → IsToWrite guest b a part
 
--- What a device learns of its guest's memory, or does by itself: zeros were told for a part that it
--- is to write; all copies are forgotten, which begins a step of it; or in such a step, which is over
--- then, it saw that its driver isn't to be notified.
+-- What a device learns of its guest's memory, or does by itself: zeros were told for a part that
+-- it is to write; all copies are forgotten, which begins a step of it; or in such a step, which is
+-- over then, it saw that its driver isn't to be notified.
 pub data Learns (guest : ℕ) (b : Boards) : Bool → AskingState → Bool → AskingState → Type 0 where
   Tells : (g : Bool) (a a' : AskingState) (part : Range) (zeros : List ℕ)
       → IsToWrite guest b a part → length zeros ≤ part.len → All (λ v. v ≡ 0) zeros
       → a' ≡ after_told a part.at zeros → Learns guest b g a g a'
-  Forgets : (a a' : AskingState) → a' ≡ record a { held = kept (known a) } → Learns guest b false a true a'
+  Forgets : (a a' : AskingState) → a' ≡ record a { held = kept (known a) }
+      → Learns guest b false a true a'
   Sees : (a a' : AskingState) → Notifies a (Ok false) a' → Learns guest b true a false a'
 
 -- The guest's device learned something, and nothing else changed.

@@ -1,5 +1,5 @@
 //! Handing what was accepted to the store, and its writes to the disk.
-ghost use Rattle.std.specs.Prelude.{◌≡◌, ℕ, List, true, false};
+ghost use Rattle.std.specs.Prelude.{◌≡◌, ◌⊎◌, ℕ, List, true, false};
 ghost use Rattle.board.specs.Asking.{board_of};
 ghost use Rattle.flusher.specs.Store.{next_call};
 ghost use Rattle.machine.specs.Ending.{HasRoomForNone, IsHandedOn};
@@ -55,6 +55,7 @@ fn hand_on(board: &mut AskingBoard<OutboxDisk>, guest: u16) -> bool
     ensures devices { board.new.devices ≡ board.old.devices }
     ensures did { result ≡ true → (s : Stand) → DoesSome guest s board.old s board.new }
     ensures done { result ≡ false → IsHandedOn guest board.new.rest }
+    ensures same { result ≡ false → board_of board.new ≡ board_of board.old }
 {
     let told = board.settle();
     let taken = board.take(guest);
@@ -71,6 +72,8 @@ pub(crate) fn hand_all(board: &mut AskingBoard<OutboxDisk>, guest: u16) -> bool
     ensures devices { board.new.devices ≡ board.old.devices }
     ensures did { result ≡ true → (s : Stand) → DoesSome guest s board.old s board.new }
     ensures done { result ≡ false → IsHandedOn guest board.new.rest }
+    ensures either { ((s : Stand) → DoesSome guest s board.old s board.new)
+        ⊎ (board_of board.new ≡ board_of board.old) }
 {
     for _step in 1..MOST_WRITES {
         if !hand_on(board, guest) {

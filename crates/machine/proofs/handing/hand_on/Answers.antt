@@ -114,8 +114,23 @@ returns-clause-done c nothing =
     let e = c.give-given.new.self in
     let none = none_did c.settle-told.result c.take-taken.result c.give-given.result
     c.write_next-written.result (let is = nothing in cc) in
-    handed_on g a b d e c.write_next-written.new.board
+    (handed_on g a b d e c.write_next-written.new.board
     (subst (λ did. Makes step.Settle (did_answer did) a b) none.0 c.settle-told.ensures.steps)
     (subst (λ did. Makes (step.Take g) (did_answer did) b d) none.1 c.take-taken.ensures.steps)
     (subst (λ did. Makes (step.Give g) (did_answer did) d e) none.2 c.give-given.ensures.steps)
-    (c.write_next-written.ensures.none none.3)
+    (c.write_next-written.ensures.none none.3)).0
+
+pub returns-clause-same : goal.returns-clause-same
+returns-clause-same c nothing =
+    let g = c.args.guest in
+    let a = c.args.board.now in
+    let b = c.settle-told.new.self in
+    let d = c.take-taken.new.self in
+    let e = c.give-given.new.self in
+    let none = none_did c.settle-told.result c.take-taken.result c.give-given.result
+    c.write_next-written.result (let is = nothing in cc) in
+    (handed_on g a b d e c.write_next-written.new.board
+    (subst (λ did. Makes step.Settle (did_answer did) a b) none.0 c.settle-told.ensures.steps)
+    (subst (λ did. Makes (step.Take g) (did_answer did) b d) none.1 c.take-taken.ensures.steps)
+    (subst (λ did. Makes (step.Give g) (did_answer did) d e) none.2 c.give-given.ensures.steps)
+    (c.write_next-written.ensures.none none.3)).1
