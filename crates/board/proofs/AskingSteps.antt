@@ -1,14 +1,16 @@
 -- Steps of a board whose devices ask, seen as a board.
 use Rattle.std.proofs.Common.{◌≡◌, ◌≤◌, ◌<◌, ◌+◌, ℕ, zero, suc, List, [], ◌∷◌, Option, Some, None}
 use Rattle.std.proofs.Common.{Result, Ok, Err, length, map, refl, ap, sym, subst, ◌∙◌}
-use Rattle.std.proofs.Common.{length-set}
+use Rattle.std.proofs.Common.{length-set, IfSome}
 use Rattle.board.proofs.Common.{slice_get, slice_set, slice_get-map, DiskCall, DiskState, Effect}
 use Rattle.board.proofs.Common.{DeviceState, Job, Done, BoardState, Answer, PopsInto, job_of, put}
 use Rattle.board.proofs.Common.{IsSound, in_place, option_map, length-map, Does}
 use Rattle.board.proofs.Common.{Step, slice_index_or, slice_get-get_or, GuestConfig}
 use Rattle.board.proofs.Common.{Begins, bases_of, parts_of}
 use Rattle.board.specs.Board.{IsKnown}
-use Rattle.mmio_transport.specs.Asking.{AskingState, GivesOrAsks, PublishesAsked}
+use Rattle.mmio_transport.specs.Asking.{AskingState, GivesOrAsks, HasRoomIn, PublishesAsked}
+use Rattle.mmio_transport.specs.Asking.{SeesFor}
+use Rattle.mmio_transport.specs.Publishing.{IsDueIn}
 use Rattle.mmio_transport.specs.Job.{room_in}
 use Rattle.mmio_transport.specs.Popping.{GivesJob}
 use Rattle.mmio_transport.specs.declared.done.Published.{Published}
@@ -16,7 +18,7 @@ use Rattle.mmio_transport.specs.declared.fault.DeviceFault.{DeviceFault}
 use Rattle.mmio_transport.specs.declared.fault.PopFault.{PopFault}
 use Rattle.mmio_transport.specs.declared.fault.PopFault.TheVariants.{Missing, Refused}
 use Rattle.board.specs.Asking.{AskingBoardState, StepsAsked, HandsReply, PopsAsked, board_of}
-use Rattle.board.specs.Asking.{first_asked, knowledge}
+use Rattle.board.specs.Asking.{SeesAs, SeesBy, first_asked, knowledge}
 use Rattle.board.specs.declared.step.Seen.TheVariants.{Nothing}
 use Rattle.board.specs.declared.step.StepFault.TheVariants as fault
 use Rattle.board.specs.Steps.{pop_answer}
@@ -56,6 +58,19 @@ moved_board : {D : Type 0} (ds : List AskingState) (g : ℕ) (a' : AskingState) 
     ≡ with_devices (slice_set (map device_in ds) g a'.device) rest
 moved_board ds g a' rest = ap (λ l. with_devices l rest) (map-set device_in ds g a')
 
+-- in a step of the rest no device looks for a chain
+rest_sees : {D : Type 0} (s : Step) → IsOfRest s → (answer : Answer) (b : AskingBoardState D)
+    → SeesAs s answer b
+rest_sees (step.Drive g act) is answer b = tt
+rest_sees (step.Pop g) is answer b = absurd is
+rest_sees (step.Submit g) is answer b = tt
+rest_sees (step.Collect g) is answer b = tt
+rest_sees (step.Publish g) is answer b = tt
+rest_sees (step.Take g) is answer b = tt
+rest_sees (step.Give g) is answer b = tt
+rest_sees step.Advance is answer b = tt
+rest_sees step.Settle is answer b = tt
+
 -- these devices and the rest
 abbrev pub asked : {D : Type 0} → List AskingState → BoardState D → AskingBoardState D
 asked ds rest = record { devices = ds; rest = rest }
@@ -67,12 +82,13 @@ module _ {D : Type 0} (shows : D → DiskState) (makes : D → DiskCall → D �
   -- any step that leaves the copies
   pub steps_asked : (s : Step) (answer : Answer) (new : AskingBoardState D)
       → Does shows makes s answer (board_of b) (board_of new)
-      → map knowledge new.devices ≡ map knowledge b.devices
+      → map knowledge new.devices ≡ map knowledge b.devices → SeesAs s answer b
       → StepsAsked shows makes s answer b new
-  steps_asked s answer new does held = record {
+  steps_asked s answer new does held sees = record {
     steps = made shows makes effect s answer (board_of b) (board_of b) (board_of new) refl sound
         known does;
     held = held;
+    sees = sees;
   }
 
   -- one in which no device takes part, as a contract sees the board that it began with
@@ -85,6 +101,7 @@ module _ {D : Type 0} (shows : D → DiskState) (makes : D → DiskCall → D �
         steps = rest_steps shows makes effect (map device_in b.devices) b.rest sound known s is
             answer rest' does (board_of b) refl;
         held = refl;
+        sees = rest_sees s is answer b;
       })
 
   -- a pop of a device
@@ -93,9 +110,10 @@ module _ {D : Type 0} (shows : D → DiskState) (makes : D → DiskCall → D �
       → slice_get b.rest.jobs g ≡ Some None → slice_get b.devices g ≡ Some a
       → GivesJob a.device popped a'.device → a' ≡ record a { device = a'.device }
       → answer ≡ pop_answer popped → jobs' ≡ put b.rest.jobs g (job_of popped)
+      → SeesBy answer a
       → StepsAsked shows makes (step.Pop g) answer b
       (record { devices = slice_set b.devices g a'; rest = record b.rest { jobs = jobs' } })
-  pop_steps g a a' popped answer jobs' empty at gives same is jobs =
+  pop_steps g a a' popped answer jobs' empty at gives same is jobs sees =
       steps_asked (step.Pop g) answer
       (record { devices = slice_set b.devices g a'; rest = record b.rest { jobs = jobs' } })
       (subst (λ p. PopsInto g p (slice_get (map device_in b.devices) g) answer (board_of b) new)
@@ -112,6 +130,7 @@ module _ {D : Type 0} (shows : D → DiskState) (makes : D → DiskCall → D �
             (record b.rest { jobs = js })) jobs;
       })))
       (unseen knowledge b.devices g a a' at (ap knowledge same))
+      (λ place. subst (λ o. IfSome o (SeesBy answer)) (sym at) sees)
     where
       new : BoardState D
       new = with_devices (map device_in (slice_set b.devices g a'))
@@ -122,16 +141,18 @@ module _ {D : Type 0} (shows : D → DiskState) (makes : D → DiskCall → D �
       (dones' : List (Option Done))
       → in_place (slice_get b.rest.dones g) ≡ Some done → slice_get b.devices g ≡ Some a
       → PublishesAsked a done published a' → length done.reply ≤ room_in done.writable
+      → (IsDueIn a.device.queue a.device done → HasRoomIn a.device.queue a done)
       → dones' ≡ slice_set b.rest.dones g None
       → HandsReply shows makes g published b
       (record { devices = slice_set b.devices g a'; rest = record b.rest { dones = dones' } })
-  hands g a a' done published dones' lay at publishes fits left = record {
+  hands g a a' done published dones' lay at publishes fits room left = record {
     device = a;
     its = at;
     done = done;
     lay = lay;
     device' = a';
     publishes = publishes;
+    room = room;
     fits = fits;
     after = ap (λ ds. (let v : AskingBoardState D = record {
       devices = slice_set b.devices g a';
@@ -152,6 +173,7 @@ module _ {D : Type 0} (shows : D → DiskState) (makes : D → DiskCall → D �
   pop_idle g full =
       steps_asked (step.Pop g) (Ok Nothing) b
       (by (slice_get b.rest.jobs g) (slice_get (map device_in b.devices) g) full) refl
+      (λ empty. absurd (full empty))
     where
       by : (place : Option (Option Job)) (o : Option DeviceState) → (place ≡ Some None → ⊥)
           → PopsInto g place o (Ok Nothing) (board_of b) (board_of b)
@@ -166,6 +188,7 @@ module _ {D : Type 0} (shows : D → DiskState) (makes : D → DiskCall → D �
       (subst (λ o. PopsInto g (slice_get b.rest.jobs g) o (Ok Nothing) (board_of b) (board_of b))
       (sym (slice_get-map device_in b.devices g ∙ ap (option_map device_in) none))
       (by (slice_get b.rest.jobs g))) refl
+      (λ place. subst (λ o. IfSome o (SeesBy (Ok Nothing))) (sym none) tt)
     where
       by : (place : Option (Option Job))
           → PopsInto g place None (Ok Nothing) (board_of b) (board_of b)
@@ -176,12 +199,12 @@ module _ {D : Type 0} (shows : D → DiskState) (makes : D → DiskCall → D �
   -- one that is refused, or asks
   pub pop_refused : (g : ℕ) (a a' : AskingState) (why : PopFault)
       → slice_get b.rest.jobs g ≡ Some None → slice_get b.devices g ≡ Some a
-      → GivesOrAsks a (Err why) a'
+      → GivesOrAsks a (Err why) a' → SeesFor {X = Option Job} a (Err why)
       → PopsAsked shows makes g (Err why) b (asked (slice_set b.devices g a') b.rest)
-  pop_refused g a a' (Refused e) empty at gives =
+  pop_refused g a a' (Refused e) empty at gives sees =
       pop_steps g a a' (Err e) (Err (fault.Device e)) b.rest.jobs empty at gives.step gives.same
-      refl refl
-  pop_refused g a a' (Missing ask) empty at gives = record {
+      refl refl sees
+  pop_refused g a a' (Missing ask) empty at gives sees = record {
     device = a;
     its = at;
     asks = gives.missing;
@@ -194,6 +217,19 @@ module _ {D : Type 0} (shows : D → DiskState) (makes : D → DiskCall → D �
 pub lent : (ds : List AskingState) (at : ℕ) (a : AskingState) → at < length ds
     → a ≡ slice_index_or ds at a → slice_get ds at ≡ Some a
 lent ds at a below read = slice_get-get_or ds at a below ∙ ap Some (sym read)
+
+-- the device and the reply that were looked at are those that are written
+pub room_of : (ds : List AskingState) (at : ℕ) (a a' : AskingState) (place : Option Done)
+    (done done' : Done) → slice_get ds at ≡ Some a → slice_get ds at ≡ Some a'
+    → place ≡ Some done → place ≡ Some done'
+    → (IsDueIn a.device.queue a.device done → HasRoomIn a.device.queue a done)
+    → IsDueIn a'.device.queue a'.device done' → HasRoomIn a'.device.queue a' done'
+room_of ds at a a' place done done' first second lay lay' =
+    let same : a ≡ a' = (let p = first in let q = second in cc) in
+    let one : done ≡ done' = (let p = lay in let q = lay' in cc) in
+    λ room. subst (λ d. IsDueIn a'.device.queue a'.device d → HasRoomIn a'.device.queue a' d) one
+    (subst (λ (v : AskingState). IsDueIn v.device.queue v.device done
+    → HasRoomIn v.device.queue v done) same room)
 
 first_asked_count : (n : ℕ) (cs : List GuestConfig) → length (first_asked n cs) ≡ length cs
 first_asked_count n [] = refl

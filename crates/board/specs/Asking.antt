@@ -1,12 +1,13 @@
 -- What contracts see of a board whose guests' memory its host doesn't hold.
 use Rattle.std.specs.Prelude.{◌≡◌, ◌≤◌, ◌⊎◌, ℕ, ◌+◌, Bool, List, [], ◌∷◌, map, length, slice_get}
-use Rattle.std.specs.Prelude.{slice_set, Option, Some, None, Result, Ok, Err}
+use Rattle.std.specs.Prelude.{slice_set, Option, Some, None, Result, Ok, Err, IfSome}
 use Rattle.guest_memory.specs.Memory.{Span, IsAsk}
 use Rattle.guest_memory.specs.declared.ask.Ask.{Ask}
 use Rattle.rpmb_frame.specs.declared.config.GuestConfig.{GuestConfig}
 use Rattle.disk.specs.Disk.{DiskCall, DiskState}
-use Rattle.mmio_transport.specs.Asking.{AskingState, PopNeeds, PublishesAsked, ReplyNeeds}
-use Rattle.mmio_transport.specs.Asking.{first_asking, known}
+use Rattle.mmio_transport.specs.Asking.{AskingState, HasRoomIn, PopNeeds, PublishesAsked}
+use Rattle.mmio_transport.specs.Asking.{HoldsEvent, ReplyNeeds, SeesFault, SeesNext, first_asking, known}
+use Rattle.mmio_transport.specs.Publishing.{IsDueIn}
 use Rattle.mmio_transport.specs.Job.{Done, room_in}
 use Rattle.mmio_transport.specs.declared.done.Published.{Published}
 use Rattle.mmio_transport.specs.declared.fault.PopFault.{PopFault}
@@ -44,11 +45,34 @@ as_boards (Err refused) = Err refused
 abbrev pub knowledge : AskingState → List Span × (Bool × ℕ)
 knowledge a = (a.held, (a.asks, a.told))
 
+-- what a device had a copy of, where its pop answered so
+abbrev pub SeesBy : Answer → AskingState → Type 0
+SeesBy (Ok seen) a = SeesNext a × HoldsEvent a
+SeesBy (Err (fault.Device e)) a = SeesFault a e
+SeesBy (Err (fault.Memory e)) a = Unit {0}
+SeesBy (Err (fault.Book e)) a = Unit {0}
+SeesBy (Err (fault.Store e)) a = Unit {0}
+
+-- A pop looks for a chain where the guest's place for a job is empty, and by a copy of what says
+-- whether one is available; and of what it writes there is one.
+abbrev pub SeesAs : {D : Type 0} → Step → Answer → AskingBoardState D → Type 0
+SeesAs (step.Drive g act) answer b = Unit {0}
+SeesAs (step.Pop g) answer b =
+    slice_get b.rest.jobs g ≡ Some None → IfSome (slice_get b.devices g) (SeesBy answer)
+SeesAs (step.Submit g) answer b = Unit {0}
+SeesAs (step.Collect g) answer b = Unit {0}
+SeesAs (step.Publish g) answer b = Unit {0}
+SeesAs (step.Take g) answer b = Unit {0}
+SeesAs (step.Give g) answer b = Unit {0}
+SeesAs step.Advance answer b = Unit {0}
+SeesAs step.Settle answer b = Unit {0}
+
 -- It made a step of a board, and its devices know what they knew.
 pub record StepsAsked {D : Type 0} (shows : D → DiskState) (makes : D → DiskCall → D → Type 0)
     (s : Step) (answer : Answer) (old new : AskingBoardState D) : Type 0 where
   pub steps : Steps shows makes s answer (board_of old) (board_of new)
   pub held : map knowledge new.devices ≡ map knowledge old.devices
+  pub sees : SeesAs s answer old
 
 -- A guest's device asks for bytes of which it has no copy, and which it needs; and nothing changed.
 pub record AsksFor {D : Type 0} (needs : AskingState → Ask → Type 0) (g : ℕ) (ask : Ask)
@@ -87,6 +111,9 @@ pub record HandsReply {D : Type 0} (shows : D → DiskState) (makes : D → Disk
   pub lay : in_place (slice_get old.rest.dones g) ≡ Some done
   pub device' : AskingState
   pub publishes : PublishesAsked device done published device'
+  -- there are copies of all that it writes
+  pub room : IsDueIn device.device.queue device.device done
+      → HasRoomIn device.device.queue device done
   -- a reply has no more bytes than its chain has room for
   pub fits : length done.reply ≤ room_in done.writable
   pub after : new

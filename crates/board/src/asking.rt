@@ -133,9 +133,6 @@ impl<D: Disk> AskingBoard<D> {
     pub fn pop(&mut self, guest: u16) -> Result<bool, PopFault>
         ensures pops { PopsAsked D.state D.makes guest result self.old self.new }
         ensures short { (ask : Ask) → result ≡ Err (PopFault.Missing ask) → ask.len ≤ 16384 }
-        // Nothing is believed but what there is a copy of.
-        ensures fresh { IfSome (slice_get self.old.devices guest)
-            (λ d. d.held ≡ [] → ¬ (result ≡ Ok true)) }
     {
         self.rest.what_always_holds();
         let at = usize::from(guest);

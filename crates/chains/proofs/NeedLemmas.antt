@@ -1,12 +1,12 @@
 -- What is asked for is of the kind that a caller speaks of.
-use Rattle.std.proofs.Common.{◌≡◌, ◌<◌, ◌≤◌, ◌∙◌, ap, sym, ℕ, List, Option, Some, Result, Ok, Err}
+use Rattle.std.proofs.Common.{◌≡◌, ◌<◌, ◌≤◌, ◌∙◌, ap, ℕ, List, Option, Some, Result, Ok, Err}
 use Rattle.std.proofs.Common.{arith, get_or, length}
 use Rattle.std.proofs.lemmas.List.{get_or_default}
 use Rattle.guest_memory.specs.Memory.{Known}
 use Rattle.guest_memory.specs.declared.ask.Ask.{Ask}
 use Rattle.chains.proofs.Common.{RingFault, NoMemory, Missing, Refused, ChainFault, Descriptors}
 use Rattle.chains.proofs.Common.{Found, Range, walk}
-use Rattle.chains.specs.Building.{AsksOnly, BelievesCopies}
+use Rattle.chains.specs.Building.{AsksOnly, BelievesCopies, StandsOn}
 use Rattle.chains.specs.Needs.{AsksNothing, IsOfRanges, LiesIn}
 use Rattle.chains.specs.Start.{found_from, some_found}
 
@@ -23,16 +23,21 @@ asked_as X Y m P Q (Missing ask) more asks =
     record { absent = asks.absent; few = asks.few; needed = more ask asks.needed }
 asked_as X Y m P Q (Refused f) more asks = record { absent = tt; few = tt; needed = tt }
 
-pub believes_asked : (X Y : Type 0) (m : Known) (size : ℕ) (P Q : Ask → Type 0) (e : RingFault)
-    → ((ask : Ask) → P ask → Q ask) → AsksOnly {X = X} m P (Err e)
-    → BelievesCopies {X = Y} m size Q (Err e)
-believes_asked X Y m size P Q e more asks =
+stands_on : (X S : Type 0) (e : RingFault) → S → StandsOn {X = X} S (Err e)
+stands_on X S NoMemory there = tt
+stands_on X S (Missing ask) there = tt
+stands_on X S (Refused f) there = there
+
+pub believes_asked : (X Y : Type 0) (m : Known) (size : ℕ) (S : Type 0) (P Q : Ask → Type 0)
+    (e : RingFault) → ((ask : Ask) → P ask → Q ask) → AsksOnly {X = X} m P (Err e)
+    → S → BelievesCopies {X = Y} m size S Q (Err e)
+believes_asked X Y m size S P Q e more asks there =
     let all = asked_as X Y m P Q e more asks in
     record {
       asks = all.absent;
       needed = all.needed;
       short = λ small. all.few;
-      fresh = λ none ok. absurd (let is = ok in cc);
+      seen = stands_on Y S e there;
     }
 
 -- the chain that is walked from where the next one begins is the next one

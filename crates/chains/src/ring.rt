@@ -130,7 +130,7 @@ impl<R: Rules> Ring<R> {
         ensures reads { CountsReads result reads.old reads.new
             (reads_of (length memory.now.bytes) false (R.members memory.now.bytes self.now)) }
         ensures few { reads.new.count ≤ self.now.size + 1024 }
-        ensures copies { BelievesCopies memory.now self.now.size
+        ensures copies { BelievesCopies memory.now self.now.size (R.seen memory.now self.now)
             (IsNeeded (R.of_area self.now) memory.now.bytes (descriptors_of R.shape self.now)
             (R.next memory.now.bytes self.now)) result }
     {
@@ -188,9 +188,10 @@ impl<R: Rules> Ring<R> {
         ensures reads { CountsReads result reads.old reads.new
             (reads_of (length memory.old.bytes) false (R.members memory.old.bytes self.old)) }
         ensures few { reads.new.count ≤ self.old.size + 1024 }
-        ensures copies { BelievesCopies memory.old self.old.size
+        ensures copies { BelievesCopies memory.old self.old.size (R.seen memory.old self.old)
             (IsNeeded (R.of_area self.old) memory.old.bytes (descriptors_of R.shape self.old)
             (R.next memory.old.bytes self.old)) result }
+        ensures event { IsOk result → R.event_held memory.old self.old }
         ensures held { memory.new ≡ record memory.old { bytes = memory.new.bytes } }
     {
         let _last = self.counts.last(); // for the checker: places are few, so no sum wraps

@@ -1,9 +1,9 @@
 //! What a kind of ring brings of its own.
 ghost use Rattle.std.specs.Prelude.{◌≡◌, ◌≤◌, ◌<◌, ◌+◌, ◌*◌, ◌^◌, ◌↔◌, ℕ, Bool, false, IsTrue};
 ghost use Rattle.std.specs.Prelude.{List};
-ghost use Rattle.std.specs.Prelude.{Option, None, Result, length, IfSome, IsOk, []};
+ghost use Rattle.std.specs.Prelude.{Option, None, Result, length, IfSome};
 ghost use Rattle.guest_memory.specs.Memory.{IsAsk, IsInside, Known};
-ghost use Rattle.chains.specs.Building.{AsksOnly};
+ghost use Rattle.chains.specs.Building.{AsksOnly, StandsOn};
 ghost use Rattle.chains.specs.Needs.{LiesIn};
 ghost use Rattle.guest_memory.specs.declared.ask.Ask.{Ask};
 ghost use Rattle.chains.specs.declared.places.Places.{Places};
@@ -61,6 +61,9 @@ pub trait Rules: Drop {
     /// The members of that chain.
     ghost members: { List ℕ → RingState → List Member };
 
+    /// There is a copy of what says whether that place is available.
+    ghost seen: { Known → RingState → Type 0 };
+
     /// Where the chain at the place after those popped begins; `None` where that place isn't
     /// available.
     ///
@@ -70,7 +73,7 @@ pub trait Rules: Drop {
         requires areas { areas (length memory.now.bytes) ring.now }
         ensures starts { Starts (start memory.now.bytes ring.now) result }
         ensures asks { AsksOnly memory.now (of_area ring.now) result }
-        ensures fresh { memory.now.held ≡ [] → ¬ IsOk result };
+        ensures seen { StandsOn (seen memory.now ring.now) result };
 
     /// The memory with what a pop writes for the driver.
     ghost event: { List ℕ → RingState → List ℕ };

@@ -15,6 +15,7 @@ use Rattle.std.proofs.lemmas.List.{get_or-map}
 use Rattle.script.specs.Line.{said}
 use Rattle.recovery.specs.declared.fault.OpenFault.TheVariants as image
 use Rattle.queue_looks.specs.declared.fault.HostFault.TheVariants as host
+use Rattle.guest_driver.specs.declared.config.DriverConfig.{DriverConfig}
 use Rattle.workers.specs.Driving.{Ran}
 use Rattle.workers.specs.declared.driver.DriverEnd.{DriverEnd}
 use Rattle.commands.specs.Ending.{IsServable}
@@ -97,17 +98,22 @@ take_all (x ∷ xs) zero is = absurd (omega (arith, is))
 take_all (x ∷ xs) (suc n) is = ap (λ t. x ∷ t) (take_all xs n (omega (arith, is)))
 
 -- What guests have answers to is what the lines offer of each.
-pub told_each : (drivers : List DriverEnd) (scripts : List (List Order)) (lines : List Said) (n : ℕ)
-    → length drivers ≡ n → length scripts ≡ n → HaveAll drivers scripts
+pub told_each : (drivers : List DriverEnd) (configs : List DriverConfig)
+    (scripts : List (List Order)) (lines : List Said) (n : ℕ)
+    → length drivers ≡ n → length scripts ≡ n → length configs ≡ n
+    → HaveAll drivers configs scripts
     → ((g : ℕ) → g < n → map (asks g) (slice_index_or scripts g []) ≡ asked_of g lines)
     → (g : ℕ) → g < n → length (get_or (map (λ e. e.answers.items) drivers) g [])
     ≡ chains_of g lines
-told_each [] scripts lines n many as_many all each g below = absurd (omega (arith, many, below))
-told_each (d ∷ drivers) scripts lines n many as_many all each g below =
+told_each [] configs scripts lines n many as_many each_one all each g below =
+    absurd (omega (arith, many, below))
+told_each (d ∷ drivers) [] scripts lines n many as_many each_one all each g below =
+    absurd (omega (arith, each_one, below))
+told_each (d ∷ drivers) (c ∷ configs) scripts lines n many as_many each_one all each g below =
     let inside : g < length (d ∷ drivers) = omega (arith, many, below) in
     let here = get_or (d ∷ drivers) g d in
     let answered : length here.answers.items ≡ chain_orders (slice_index_or scripts g []) =
-    (all g d (omega (arith, as_many, below))).all in
+    (all g d c (omega (arith, as_many, below))).all in
     let shown : length (get_or (map (λ e. e.answers.items) (d ∷ drivers)) g [])
     ≡ length here.answers.items =
     ap length (get_or-map (λ (e : DriverEnd). e.answers.items) (d ∷ drivers) g d [] inside) in
@@ -115,45 +121,49 @@ told_each (d ∷ drivers) scripts lines n many as_many all each g below =
     omega (arith, answered, shown, offers)
 
 -- and the drivers ran just these
-ran_each : (drivers : List DriverEnd) (scripts : List (List Order)) (lines : List Said) (n : ℕ)
-    → length drivers ≡ n → length scripts ≡ n → HaveAll drivers scripts
+ran_each : (drivers : List DriverEnd) (configs : List DriverConfig) (scripts : List (List Order))
+    (lines : List Said) (n : ℕ)
+    → length drivers ≡ n → length scripts ≡ n → HaveAll drivers configs scripts
     → ((g : ℕ) → g < n → map (asks g) (slice_index_or scripts g []) ≡ asked_of g lines)
-    → (g : ℕ) → g < n → RanOf g lines (get_or (map (λ e. e.answers.items) drivers) g [])
-ran_each [] scripts lines n many as_many all each g below = absurd (omega (arith, many, below))
-ran_each (d ∷ drivers) scripts lines n many as_many all each g below =
+    → (g : ℕ) (c : DriverConfig) → g < n
+    → RanOf g (get_or configs g c) lines (get_or (map (λ e. e.answers.items) drivers) g [])
+ran_each [] configs scripts lines n many as_many all each g c below =
+    absurd (omega (arith, many, below))
+ran_each (d ∷ drivers) configs scripts lines n many as_many all each g c below =
     let inside : g < length (d ∷ drivers) = omega (arith, many, below) in
     record {
       script = slice_index_or scripts g [];
       asked = each g below;
-      ran = subst (Ran g (slice_index_or scripts g []))
+      ran = subst (Ran g (slice_index_or configs g c) (slice_index_or scripts g []))
           (sym (get_or-map (λ (e : DriverEnd). e.answers.items) (d ∷ drivers) g d [] inside))
-          (all g d (omega (arith, as_many, below)));
+          (all g d c (omega (arith, as_many, below)));
     }
 
 -- what they print where they end well
-pub prints_each : (drivers : List DriverEnd) (scripts : List (List Order)) (lines : List Said)
-    (n : ℕ) (start now : Option (List ℕ)) → length drivers ≡ n → length scripts ≡ n
-    → HaveAll drivers scripts
+pub prints_each : (drivers : List DriverEnd) (configs : List DriverConfig)
+    (scripts : List (List Order)) (lines : List Said) (n : ℕ) (start now : Option (List ℕ))
+    → length drivers ≡ n → length scripts ≡ n → length configs ≡ n
+    → HaveAll drivers configs scripts
     → ((g : ℕ) → g < n → map (asks g) (slice_index_or scripts g []) ≡ asked_of g lines)
     → Appends start now (guests_lines 0 (map (λ e. e.answers.items) drivers))
-    → PrintsEach n lines start now
-prints_each drivers scripts lines n start now many as_many all each printed = record {
+    → PrintsEach n configs lines start now
+prints_each drivers configs scripts lines n start now many as_many each_one all each printed = record {
   answers = map (λ e. e.answers.items) drivers;
   many = length-map drivers (λ (e : DriverEnd). e.answers.items) ∙ many;
-  ran = ran_each drivers scripts lines n many as_many all each;
-  each = told_each drivers scripts lines n many as_many all each;
+  ran = ran_each drivers configs scripts lines n many as_many all each;
+  each = told_each drivers configs scripts lines n many as_many each_one all each;
   printed = printed;
 }
 
 -- and where they don't
-pub served_print : (n : ℕ) (lines : List Said) (start now : Option (List ℕ))
-    (r : Result (Unit {0}) Fault) → IfErr r IsOfTelling
-    → (r ≡ Err fault.DiskFault → PrintsEach n lines start now)
-    → IfErr r (λ f. ServedPrint n lines f start now)
-served_print n lines start now (Ok done) of told = tt
-served_print n lines start now (Err f) of told =
-    telling_cases (λ e. (e ≡ fault.DiskFault → PrintsEach n lines start now)
-    → ServedPrint n lines e start now) (λ t. inr (t refl)) (λ t. tt) (λ t. tt) f of (λ is.
+pub served_print : (n : ℕ) (configs : List DriverConfig) (lines : List Said)
+    (start now : Option (List ℕ)) (r : Result (Unit {0}) Fault) → IfErr r IsOfTelling
+    → (r ≡ Err fault.DiskFault → PrintsEach n configs lines start now)
+    → IfErr r (λ f. ServedPrint n configs lines f start now)
+served_print n configs lines start now (Ok done) of told = tt
+served_print n configs lines start now (Err f) of told =
+    telling_cases (λ e. (e ≡ fault.DiskFault → PrintsEach n configs lines start now)
+    → ServedPrint n configs lines e start now) (λ t. inr (t refl)) (λ t. tt) (λ t. tt) f of (λ is.
     told (ap Err is))
 
 -- Which faults end it once its lines are read: why the image isn't opened, what its threads come
@@ -184,20 +194,22 @@ pub telling_serve : (board : List GuestConfig) (old : DiskState) (f : Fault) →
 telling_serve board old f of = telling_cases (EndsServe board old) (λ script new servable. servable)
     (λ script new servable. tt) (λ script new servable. servable) f of
 
-pub serve_prints : (board : List GuestConfig) (script : List ℕ) (read : List Line)
-    (start now : Option (List ℕ)) (r : Result (Unit {0}) Fault)
+pub serve_prints : (board : List GuestConfig) (configs : List DriverConfig) (script : List ℕ)
+    (read : List Line) (start now : Option (List ℕ)) (r : Result (Unit {0}) Fault)
     → map (λ line. Some (said line)) read ≡ map (served_line_of (length board)) (lines_of script)
-    → IfErr r (λ f. ServedPrint (length board) (map said read) f start now)
-    → IfErr r (λ f. ServePrints board script f start now)
-serve_prints board script read start now (Ok done) was prints = tt
-serve_prints board script read start now (Err f) was prints = λ lines is.
-    subst (λ x. ServedPrint (length board) x f start now) (sym (says_same lines read _ is was))
+    → IfErr r (λ f. ServedPrint (length board) configs (map said read) f start now)
+    → IfErr r (λ f. ServePrints board configs script f start now)
+serve_prints board configs script read start now (Ok done) was prints = tt
+serve_prints board configs script read start now (Err f) was prints = λ lines is.
+    subst (λ x. ServedPrint (length board) configs x f start now) (sym (says_same lines read _ is was))
     prints
 
 -- of a script that isn't read, nothing
-pub unread_prints : (board : List GuestConfig) (script : List ℕ) (f : Fault)
-    (start : Option (List ℕ)) → IsOfReading f → ServePrints board script f start start
-unread_prints board script f start of = reading_cases (λ e. ServePrints board script e start start)
+pub unread_prints : (board : List GuestConfig) (configs : List DriverConfig) (script : List ℕ)
+    (f : Fault) (start : Option (List ℕ)) → IsOfReading f
+    → ServePrints board configs script f start start
+unread_prints board configs script f start of =
+    reading_cases (λ e. ServePrints board configs script e start start)
     (λ lines is. tt) (λ n lines is. Keeps-refl start) f of
 
 pub unread_ends : (board : List GuestConfig) (script : List ℕ) (old new : DiskState) (f : Fault)

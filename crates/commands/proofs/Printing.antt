@@ -22,11 +22,6 @@ transcript-append t (first ∷ lines) line =
     ∙ sym (append_assoc (printed_by t first) (transcript (told_by t first) lines)
     (printed_by (told_after (told_by t first) lines) line))
 
--- the lines that are left have the sizes of lines
-pub head_sized : (line : Line) (rest : List Line) → All (λ l. IsSized (said l)) (line ∷ rest)
-    → IsSized (said line)
-head_sized line rest are = are 0 line (omega arith)
-
 pub rest_sized : (line : Line) (rest : List Line) → All (λ l. IsSized (said l)) (line ∷ rest)
     → All (λ l. IsSized (said l)) rest
 rest_sized line rest are = λ k d below. are (suc k) d (omega (arith, below))

@@ -15,9 +15,6 @@ take_add text n m =
     (sym (drop-take n m text))
     ∙ take-append-drop n (take (n + m) text)
 
-pub took_none : (start : Option (List ℕ)) (text : List ℕ) → Took start start text 0
-took_none start text = record { within = omega arith; appended = Appends-nil start }
-
 pub took_more : (start now next : Option (List ℕ)) (text rest : List ℕ) (taken count : ℕ)
     → Took start now text taken → rest ≡ drop taken text
     → count ≤ length rest → Appends now next (take count rest)

@@ -7,6 +7,7 @@ use Rattle.command_line.specs.declared.command.Command.{Command}
 use Rattle.command_line.specs.declared.command.Command.TheVariants as command
 use Rattle.rpmb_frame.specs.declared.config.GuestConfig.{GuestConfig}
 use Rattle.guest_driver.specs.Config.{SetupState}
+use Rattle.guest_driver.specs.declared.config.DriverConfig.{DriverConfig}
 use Rattle.disk.specs.Disk.{DiskCall, DiskState, Within}
 use Rattle.intent_slots.specs.Layout.{capacities_of, image_length}
 use Rattle.recovery.specs.Format.{ClearsFirst, IsFormatted}
@@ -73,12 +74,13 @@ pub record RunDoes {D : Type 0} (shows : D → DiskState) (makes : D → DiskCal
 
 -- the disk may be lost
 pub record ServeDoes {D : Type 0} (shows : D → DiskState) (makes : D → DiskCall → D → Type 0)
-    (board : List GuestConfig) (script : List ℕ) (old : D) (start : Option (List ℕ))
-    (ended : Result (Unit {0}) Fault) (given : Option D) (now : Option (List ℕ)) : Type 0 where
-  pub printed : OnOk ended (ServesAll board script start now)
+    (board : List GuestConfig) (configs : List DriverConfig) (script : List ℕ) (old : D)
+    (start : Option (List ℕ)) (ended : Result (Unit {0}) Fault) (given : Option D)
+    (now : Option (List ℕ)) : Type 0 where
+  pub printed : OnOk ended (ServesAll board configs script start now)
   pub back : OnOk ended (IsSome given)
   pub ends : IfErr ended (λ f. (new : DiskState) → Ends (serving script) board (shows old) new f)
-  pub prints : IfErr ended (λ f. ServePrints board script f start now)
+  pub prints : IfErr ended (λ f. ServePrints board configs script f start now)
   pub leaves : IfErr ended (λ f. ServeLeaves shows makes old f given)
   pub keeps : ServeKeeps shows makes board old ended given
   pub bad : (n : ℕ) → IsUnservedAt board script n → IsErr ended × Keeps start now
@@ -106,7 +108,7 @@ Does shows makes (command.Upgrade b) setup script old start ended back now =
 Does shows makes (command.Run b s) setup script old start ended back now =
     GivesBack (λ new. RunDoes shows makes setup script old start ended new now) back
 Does shows makes (command.Serve b s) setup script old start ended back now =
-    ServeDoes shows makes setup.board script old start ended back now
+    ServeDoes shows makes setup.board setup.drivers script old start ended back now
 
 -- What standard error has taken of an end: nothing, or the line of the fault, as far as that went
 -- out.

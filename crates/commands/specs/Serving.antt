@@ -6,6 +6,7 @@ use Rattle.std.specs.Io.KnownBytes.{Appends, Keeps}
 use Rattle.rpmb_frame.specs.Config.{IsBoard}
 use Rattle.rpmb_frame.specs.declared.config.GuestConfig.{GuestConfig}
 use Rattle.disk.specs.Disk.{DiskCall, DiskState, Within}
+use Rattle.guest_driver.specs.declared.config.DriverConfig.{DriverConfig}
 use Rattle.recovery.specs.Opening.{Untouched}
 use Rattle.script.specs.declared.line.Line.{Line}
 use Rattle.script.specs.Line.{IsServed, IsWithin, Said, chain, reset, said, served_line_of}
@@ -73,41 +74,46 @@ unfoldable pub guests_lines : ℕ → List (List Answer) → List ℕ
 guests_lines guest [] = []
 guests_lines guest (answers ∷ rest) = answer_lines guest answers ++ guests_lines (guest + 1) rest
 
--- A guest's driver ran just what the lines ask of its guest, chains and resets in their order, on
--- that guest's device, and was told these answers.
-pub record RanOf (guest : ℕ) (lines : List Said) (answers : List Answer) : Type 0 where
+-- A guest's driver, of this configuration, ran just what the lines ask of its guest, chains and
+-- resets in their order, on that guest's device, and was told these answers.
+pub record RanOf (guest : ℕ) (config : DriverConfig) (lines : List Said) (answers : List Answer)
+    : Type 0 where
   pub script : List Order
   pub asked : map (asks guest) script ≡ asked_of guest lines
-  pub ran : Ran guest script answers
+  pub ran : Ran guest config script answers
 
--- What lines print whose guests are served at once: guest by guest, a line for each chain that they
--- offer of it, of what its driver was told.
-pub record PrintsEach (guests : ℕ) (lines : List Said) (start now : Option (List ℕ)) : Type 0 where
+-- What lines print whose guests are served at once, by drivers of these configurations: guest by
+-- guest, a line for each chain that they offer of it, of what its driver was told.
+pub record PrintsEach (guests : ℕ) (configs : List DriverConfig) (lines : List Said)
+    (start now : Option (List ℕ)) : Type 0 where
   pub answers : List (List Answer)
   pub many : length answers ≡ guests
-  pub ran : (g : ℕ) → g < guests → RanOf g lines (get_or answers g [])
+  pub ran : (g : ℕ) (c : DriverConfig) → g < guests
+      → RanOf g (get_or configs g c) lines (get_or answers g [])
   pub each : (g : ℕ) → g < guests → length (get_or answers g []) ≡ chains_of g lines
   pub printed : Appends start now (guests_lines 0 answers)
 
 -- and a script
-abbrev pub ServesAll : List GuestConfig → List ℕ → Option (List ℕ) → Option (List ℕ) → Type 0
-ServesAll board script start now = (lines : List Said) → SaysServed board script lines
-    → PrintsEach (length board) lines start now
+abbrev pub ServesAll : List GuestConfig → List DriverConfig → List ℕ → Option (List ℕ)
+    → Option (List ℕ) → Type 0
+ServesAll board configs script start now = (lines : List Said) → SaysServed board script lines
+    → PrintsEach (length board) configs lines start now
 
 -- What lines have printed then: all of it where a call of the disk failed while they ran; nothing,
 -- unless memory for it or standard output itself was wanting.
-abbrev pub ServedPrint : ℕ → List Said → Fault → Option (List ℕ) → Option (List ℕ) → Type 0
-ServedPrint guests lines fault.FileFault start now = Unit {0}
-ServedPrint guests lines fault.NoMemory start now = Unit {0}
-ServedPrint guests lines fault.DiskFault start now =
-    Keeps start now ⊎ PrintsEach guests lines start now
-ServedPrint guests lines f start now = Keeps start now
+abbrev pub ServedPrint : ℕ → List DriverConfig → List Said → Fault → Option (List ℕ)
+    → Option (List ℕ) → Type 0
+ServedPrint guests configs lines fault.FileFault start now = Unit {0}
+ServedPrint guests configs lines fault.NoMemory start now = Unit {0}
+ServedPrint guests configs lines fault.DiskFault start now =
+    Keeps start now ⊎ PrintsEach guests configs lines start now
+ServedPrint guests configs lines f start now = Keeps start now
 
 -- and what a script has
-abbrev pub ServePrints : List GuestConfig → List ℕ → Fault → Option (List ℕ) → Option (List ℕ)
-    → Type 0
-ServePrints board script f start now = (lines : List Said) → SaysServed board script lines
-    → ServedPrint (length board) lines f start now
+abbrev pub ServePrints : List GuestConfig → List DriverConfig → List ℕ → Fault
+    → Option (List ℕ) → Option (List ℕ) → Type 0
+ServePrints board configs script f start now = (lines : List Said) → SaysServed board script lines
+    → ServedPrint (length board) configs lines f start now
 
 -- the disk comes back, of which no moment has left another content
 abbrev pub ComesBack : {D : Type 0} → (D → DiskState) → (D → DiskCall → D → Type 0) → D → Option D

@@ -108,15 +108,16 @@ fn serve_on<D: Disk + Send + Drop, W: Write, R: Threads + Wait + Sync>(
     out: &mut W,
 ) -> (Result<(), Fault>, Option<D>)
     requires servable { AreServable board.now lines.items }
-    ensures printed { OnOk result.0 (PrintsEach (length board.now) (map said lines.items)
-        (W.contents out.old) (W.contents out.new)) }
+    requires drivers { length configs.now ≡ length board.now }
+    ensures printed { OnOk result.0 (PrintsEach (length board.now) configs.now
+        (map said lines.items) (W.contents out.old) (W.contents out.new)) }
     ensures back { OnOk result.0 (IsSome result.1) }
     ensures ends { IfErr result.0
         (λ fault. (script : List ℕ) (new : DiskState) → IsServable board.now script
         → Ends (serving script) board.now (D.state disk) new fault) }
     ensures prints { IfErr result.0 (λ fault.
-        ServedPrint (length board.now) (map said lines.items) fault (W.contents out.old)
-        (W.contents out.new)) }
+        ServedPrint (length board.now) configs.now (map said lines.items) fault
+        (W.contents out.old) (W.contents out.new)) }
     ensures leaves { IfErr result.0 (λ fault. ServeLeaves D.state D.makes disk fault result.1) }
     ensures keeps { ServeKeeps D.state D.makes board.now disk result.0 result.1 }
 {
@@ -156,13 +157,15 @@ pub fn serve<R: AllocGlobal + Threads + Wait + Sync, D: Disk + Send + Drop, W: W
 ) -> (Result<(), Fault>, Option<D>)
     // A line for each chain, guest by guest.
     ensures printed { OnOk result.0
-        (ServesAll setup.now.board script.now (W.contents out.old) (W.contents out.new)) }
+        (ServesAll setup.now.board setup.now.drivers script.now (W.contents out.old)
+        (W.contents out.new)) }
     ensures back { OnOk result.0 (IsSome result.1) }
     // The disk may be lost.
     ensures ends { IfErr result.0 (λ fault. (new : DiskState)
         → Ends (serving script.now) setup.now.board (D.state disk) new fault) }
     ensures prints { IfErr result.0 (λ fault.
-        ServePrints setup.now.board script.now fault (W.contents out.old) (W.contents out.new)) }
+        ServePrints setup.now.board setup.now.drivers script.now fault (W.contents out.old)
+        (W.contents out.new)) }
     ensures leaves { IfErr result.0 (λ fault. ServeLeaves D.state D.makes disk fault result.1) }
     // The threads alone called the disk once the image was opened, and at each moment every stop
     // leaves each partition as it was, with whole intents after it, one after another; with no

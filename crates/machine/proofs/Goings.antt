@@ -15,7 +15,8 @@ use Rattle.machine.specs.Ending.{EndsFor, FindsNone, GoesOnFor, HasEnded, HasRea
 use Rattle.machine.specs.Ending.{IsTaken}
 use Rattle.machine.specs.declared.taking.Taken.{Taken}
 use Rattle.machine.specs.declared.taking.Taken.TheVariants as taken
-use Rattle.machine.specs.Ending.{Lacks, Looks, NeedsNext, NotifiesNext, Refuses, RestsAt, SawAll}
+use Rattle.machine.specs.Ending.{BookRefused, Lacks, Looks, NeedsNext, NotifiesNext, PopRefused}
+use Rattle.machine.specs.Ending.{RestsAt, SawAll}
 use Rattle.machine.specs.Ending.{Went, left_by}
 use Rattle.machine.specs.declared.fault.MachineFault.TheVariants as fault
 use Rattle.machine.specs.Serving.{HasStopped, KeepsLimit, KeepsWaiting, SameDevices}
@@ -104,7 +105,6 @@ module _ (guest : ℕ) where
     parts = looks.parts;
     after = looks.after;
     pops = looks.pops;
-    behind = looks.behind;
     rest = looks.rest;
   }
 
@@ -116,21 +116,25 @@ module _ (guest : ℕ) where
     parts = looks.parts;
     after = looks.after;
     pops = looks.pops;
-    behind = looks.behind;
-    rest = runs_twice guest looks.behind t v looks.after b d looks.rest more;
+    rest = runs_twice guest (standing looks.parts false) t v looks.after b d looks.rest more;
   }
 
 module _ (guest : ℕ) (f : MachineFault) where
   pub then_reason : (s t v : Stand) (a b d : Boards) → Runs guest s a t b
       → HasReason guest f t b v d → HasReason guest f s a v d
-  then_reason s t v a b d first (Refuses w u x y step e before takes makes is after) =
-      Refuses w u x y step e (runs_twice guest s t w a b x first before) takes makes is after
+  then_reason s t v a b d first (PopRefused x y e before makes is after) =
+      PopRefused x y e (runs_twice guest s t (standing [] true) a b x first before) makes is after
+  then_reason s t v a b d first (BookRefused w x y e before makes is after) =
+      BookRefused w x y e (runs_twice guest s t w a b x first before) makes is after
   then_reason s t v a b d first (Lacks is) = Lacks is
 
   pub reason_then : (s t v : Stand) (a b d : Boards) → HasReason guest f s a t b
       → Runs guest t b v d → HasReason guest f s a v d
-  reason_then s t v a b d (Refuses w u x y step e before takes makes is after) more =
-      Refuses w u x y step e before takes makes is (runs_twice guest u t v y b d after more)
+  reason_then s t v a b d (PopRefused x y e before makes is after) more =
+      PopRefused x y e before makes is
+      (runs_twice guest (standing [] false) t v y b d after more)
+  reason_then s t v a b d (BookRefused w x y e before makes is after) more =
+      BookRefused w x y e before makes is (runs_twice guest w t v y b d after more)
   reason_then s t v a b d (Lacks is) more = Lacks is
 
   pub ends_after : (s t : Stand) (a b : Boards) (u : TurnState) (c : Boards) → Runs guest s a t b

@@ -1,6 +1,8 @@
 pub mod Common
 pub mod Awaited
 pub mod Completing
+pub mod Copied
+pub mod Copies
 pub mod Ends
 pub mod Formatting
 pub mod Going

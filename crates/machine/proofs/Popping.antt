@@ -2,20 +2,22 @@
 use Rattle.std.proofs.Common.{◌≡◌, ◌<◌, ◌⊎◌, inl, ap, sym, subst, ◌∙◌, ℕ, Bool, true, false}
 use Rattle.std.proofs.Common.{List, [], ◌∷◌, ◌++◌, Option, Some, None, Result, Ok, Err, length}
 use Rattle.std.proofs.Common.{get_or}
-use Rattle.std.proofs.Common.{arith, IfSome}
+use Rattle.std.proofs.Common.{arith, IfSome, refl, if◌then◌else◌}
 use Rattle.machine.proofs.Common.{slice_get, slice_set, Answer, AskingState, BoardState, Boards}
 use Rattle.machine.proofs.Common.{DeviceState, HasNoJob, IsSound, Job, Makes, OutboxState}
 use Rattle.machine.proofs.Common.{Pops, PopsInto, Range, Runs, Still, board_of, get_set_same}
 use Rattle.machine.proofs.Common.{in_place, outbox_state, put, GivesUp, Stand, standing}
-use Rattle.board.proofs.Common.{slice_get-get_or, length-map}
+use Rattle.board.proofs.AskingSteps.{device_in}
+use Rattle.board.proofs.Common.{option_map, slice_get-get_or, slice_get-map, length-map}
 use Rattle.mmio_transport.specs.declared.fault.DeviceFault.{DeviceFault}
-use Rattle.mmio_transport.specs.Popping.{GivesJob}
+use Rattle.mmio_transport.specs.Popping.{GivesFrom, GivesJob, is_stopped, live_queue}
+use Rattle.mmio_transport.specs.Queue.{QueueState}
 use Rattle.board.specs.Steps.{job_of, pop_answer}
 use Rattle.board.specs.declared.step.Seen.TheVariants.{Did, Nothing}
 use Rattle.board.specs.declared.step.Step.TheVariants as step
 use Rattle.machine.specs.Ending.{FindsNone}
-use Rattle.machine.specs.Serving.{ByPop, DoesSome}
-use Rattle.machine.specs.Turn.{pop_parts}
+use Rattle.machine.specs.Serving.{ByPop, DoesSome, WritesAll}
+use Rattle.machine.specs.Turn.{TurnState, pop_parts, stand_of}
 
 -- there is an element at each index below the length
 pub some_at : {X : Type 0} (xs : List X) (k : ℕ) → k < length xs
@@ -36,28 +38,39 @@ pub gives_up : (guest : ℕ) (ps : List Range) (g : Bool) (t : Stand) (b : Board
 gives_up guest ps g t b over = subst (λ r. Runs guest (standing ps g) b r b) (sym over)
     (GivesUp (standing ps g) ps g b b (Still (standing ps g) b))
 
+-- the step is over, and nothing is to be copied out
+pub over_by : (guest : ℕ) (turn : TurnState) (b : Boards) → turn.parts ≡ [] → turn.going ≡ false
+    → Runs guest (standing [] false) b (stand_of turn) b
+over_by guest turn b none over =
+    subst (λ g. Runs guest (standing [] false) b (standing turn.parts g) b) (sym over)
+    (subst (λ ps. Runs guest (standing [] false) b (standing ps false) b) (sym none)
+    (Still (standing [] false) b))
+
 pub pops_by : (guest : ℕ) (qs : List Range) (v : Bool) (answer : Answer) (b b' : Boards)
-    (d : AskingState) → slice_get b.devices guest ≡ Some d → Makes (step.Pop guest) answer b b'
-    → v ≡ false → (qs ≡ pop_parts d.device) ⊎ ((qs ≡ []) × ((answer ≡ Ok Did) → ⊥))
+    (d : AskingState) → slice_get b.devices guest ≡ Some d
+    → slice_get b.rest.jobs guest ≡ Some None → Makes (step.Pop guest) answer b b'
+    → v ≡ false → WritesAll d answer qs ⊎ ((qs ≡ []) × ((answer ≡ Ok Did) → ⊥))
     → Runs guest (standing [] true) b (standing qs v) b'
-pops_by guest qs v answer b b' d its makes over parts =
+pops_by guest qs v answer b b' d its empty makes over parts =
     subst (λ h. Runs guest (standing [] true) b (standing qs h) b') (sym over)
     (Pops (standing [] true) qs b b b' answer (Still (standing [] true) b) (record {
       makes = makes;
       device = d;
       its = its;
+      empty = empty;
       parts_are = parts;
     }))
 
 -- and where it gave a chain something was done
 pub pops_does : (guest : ℕ) (qs : List Range) (v : Bool) (answer : Answer) (b b' : Boards)
-    (d : AskingState) → slice_get b.devices guest ≡ Some d → Makes (step.Pop guest) answer b b'
-    → v ≡ false → qs ≡ pop_parts d.device → answer ≡ Ok Did
+    (d : AskingState) → slice_get b.devices guest ≡ Some d
+    → slice_get b.rest.jobs guest ≡ Some None → Makes (step.Pop guest) answer b b'
+    → v ≡ false → WritesAll d answer qs → answer ≡ Ok Did
     → DoesSome guest (standing [] true) b (standing qs v) b'
-pops_does guest qs v answer b b' d its makes over parts some =
+pops_does guest qs v answer b b' d its empty makes over writes some =
     subst (λ h. DoesSome guest (standing [] true) b (standing qs h) b') (sym over)
     (ByPop (standing [] true) (standing qs false) qs b b b' b' answer (Still (standing [] true) b)
-    (record { makes = makes; device = d; its = its; parts_are = inl parts }) some
+    (record { makes = makes; device = d; its = its; empty = empty; parts_are = inl writes }) some
     (Still (standing qs false) b'))
 
 -- the parts that were noted of the guest's device
@@ -86,18 +99,93 @@ module _ (guest : ℕ) (old new : BoardState OutboxState) (d : DeviceState) wher
   none_of (Ok (Some job)) device gives answers its after = absurd (let no = answers in cc)
   none_of (Err e) device gives answers its after = absurd (let no = answers in cc)
 
+-- a chain is found only behind DRIVER_OK
+did_where : (b : Bool) (d : DeviceState) (queue : Option QueueState) (job : Job) (d' : DeviceState)
+    → GivesFrom false (if b then queue else None) d (Ok (Some job)) d' → b ≡ true
+did_where true d queue job d' gives = refl
+did_where false d queue job d' gives = absurd (let no = gives.0 in cc)
+
+did_from : (stopped : Bool) (d : DeviceState) (job : Job) (d' : DeviceState)
+    → GivesFrom stopped (live_queue d) d (Ok (Some job)) d' → d.registers.status.driver_ok ≡ true
+did_from true d job d' gives = absurd (let no = gives.0 in cc)
+did_from false d job d' gives = did_where d.registers.status.driver_ok d d.queue job d' gives
+
+did_of : (d : DeviceState) (popped : Result (Option Job) DeviceFault) (device : DeviceState)
+    → GivesJob d popped device → Ok Did ≡ pop_answer popped → d.registers.status.driver_ok ≡ true
+did_of d (Ok None) device gives is = absurd (let no = is in cc)
+did_of d (Ok (Some job)) device gives is = did_from (is_stopped d) d job device gives
+did_of d (Err e) device gives is = absurd (let no = is in cc)
+
+-- and where none is found the registers stay
+none_where : (b : Bool) (d : DeviceState) (queue : Option QueueState) (d' : DeviceState)
+    → GivesFrom false (if b then queue else None) d (Ok None) d' → d'.registers ≡ d.registers
+none_where true d None d' gives = ap (λ (x : DeviceState). x.registers) gives.1
+none_where true d (Some q) d' gives = ap (λ (x : DeviceState). x.registers) gives.after
+none_where false d queue d' gives = ap (λ (x : DeviceState). x.registers) gives.1
+
+none_from : (stopped : Bool) (d d' : DeviceState) → GivesFrom stopped (live_queue d) d (Ok None) d'
+    → d'.registers ≡ d.registers
+none_from true d d' gives = ap (λ (x : DeviceState). x.registers) gives.1
+none_from false d d' gives = none_where d.registers.status.driver_ok d d.queue d' gives
+
+live_in : (o : Option AskingState) (x : DeviceState) → option_map device_in o ≡ Some x
+    → IfSome o (λ d. d.device.registers.status.driver_ok ≡ true)
+    → x.registers.status.driver_ok ≡ true
+live_in None x is live = absurd (let no = is in cc)
+live_in (Some d) x is live =
+    let same : d.device ≡ x = (let all = is in cc) in
+    subst (λ (y : DeviceState). y.registers.status.driver_ok ≡ true) same live
+
+module _ (guest : ℕ) (old new : Boards) (d : AskingState)
+    (its : slice_get old.devices guest ≡ Some d)
+    (empty : slice_get old.rest.jobs guest ≡ Some None) where
+  its_device : slice_get (board_of old).devices guest ≡ Some d.device
+  its_device = slice_get-map device_in old.devices guest ∙ ap (option_map device_in) its
+
+  pops_into : (answer : Answer) → Makes (step.Pop guest) answer old new
+      → PopsInto guest (Some None) (Some d.device) answer (board_of old) (board_of new)
+  pops_into answer makes =
+      subst (λ o. PopsInto guest (Some None) o answer (board_of old) (board_of new)) its_device
+      (subst (λ p. PopsInto guest p (slice_get (board_of old).devices guest) answer (board_of old)
+      (board_of new)) empty makes.steps.does)
+
+  pub popped_live : Makes (step.Pop guest) (Ok Did) old new
+      → d.device.registers.status.driver_ok ≡ true
+  popped_live makes =
+      let pops = pops_into (Ok Did) makes in
+      did_of d.device pops.popped pops.device pops.gives pops.answers
+
+  pub looked_live : Makes (step.Pop guest) (Ok Nothing) old new
+      → IfSome (slice_get new.devices guest) (λ x. x.device.registers.status.driver_ok ≡ true)
+      → d.device.registers.status.driver_ok ≡ true
+  looked_live makes live =
+      let pops = pops_into (Ok Nothing) makes in
+      let found = none_of guest (board_of old) (board_of new) d.device pops.popped pops.device
+      pops.gives pops.answers its_device pops.after in
+      sym (ap (λ r. r.status.driver_ok)
+      (none_from (is_stopped d.device) d.device found.0 found.2))
+      ∙ live_in (slice_get new.devices guest) found.0
+      (sym (slice_get-map device_in new.devices guest) ∙ found.1) live
+
+-- the guest's place for a job is there, and empty
+pub empty_place : (guest : ℕ) (old : Boards) → IsSound outbox_state (board_of old)
+    → guest < length old.devices → HasNoJob guest old.rest
+    → slice_get old.rest.jobs guest ≡ Some None
+empty_place guest old sound below no_job =
+    let many = sound.linked.places.devices in
+    let jobs = sound.linked.places.jobs in
+    let long = length-map old.devices (λ (a : AskingState). a.device) in
+    let job = some_at old.rest.jobs guest (omega (arith, below, many, jobs, long)) in
+    job.1 ∙ ap Some (ap in_place (sym job.1) ∙ no_job)
+
 pub found_none : (guest : ℕ) (old new : Boards) → IsSound outbox_state (board_of old)
     → guest < length old.devices → HasNoJob guest old.rest
     → Makes (step.Pop guest) (Ok Nothing) old new → FindsNone guest new × HasNoJob guest new.rest
 found_none guest old new sound below no_job makes =
     let b = board_of old in
-    let many = sound.linked.places.devices in
-    let jobs = sound.linked.places.jobs in
     let long = length-map old.devices (λ (a : AskingState). a.device) in
-    let job = some_at old.rest.jobs guest (omega (arith, below, many, jobs, long)) in
     let dev = some_at b.devices guest (omega (arith, below, long)) in
-    let empty : slice_get old.rest.jobs guest ≡ Some None =
-    job.1 ∙ ap Some (ap in_place (sym job.1) ∙ no_job) in
+    let empty = empty_place guest old sound below no_job in
     let pops = subst (λ o. PopsInto guest (Some None) o (Ok Nothing) b (board_of new)) dev.1
     (subst (λ p. PopsInto guest p (slice_get b.devices guest) (Ok Nothing) b (board_of new)) empty
     makes.steps.does) in

@@ -1,17 +1,16 @@
 -- What a reply that is handed to its device is to copy out.
-use Rattle.std.proofs.Common.{◌≡◌, ◌<◌, ◌≤◌, refl, ap, sym, subst, ◌∙◌, ℕ, ◌+◌, ◌-◌, List, [], ◌++◌}
-use Rattle.std.proofs.Common.{Option, Some, length, map, get_or, drop, IfSome, Bool, true, false}
-use Rattle.std.proofs.lemmas.List.{at_drop_all, drop_more}
+use Rattle.std.proofs.Common.{◌≡◌, refl, ap, sym, subst, ◌∙◌, ℕ, List, [], ◌++◌}
+use Rattle.std.proofs.Common.{Option, Some, length, map, IfSome, Bool, true, false}
 use Rattle.std.specs.Prelude.{option_map, IsSome, None}
 use Rattle.machine.proofs.Common.{slice_get, AskingState, Boards, Done, Hands, HandsReply}
 use Rattle.machine.proofs.Common.{OutboxMakes, Range, Runs, Still, in_place, outbox_state}
 use Rattle.machine.proofs.Common.{standing}
-use Rattle.board.proofs.Common.{append-nil, append_assoc, slice_get-map}
+use Rattle.board.proofs.Common.{append_assoc, slice_get-map}
 use Rattle.mmio_transport.specs.Queue.{QueueState}
 use Rattle.mmio_transport.specs.Written.{queue_parts}
 use Rattle.mmio_transport.specs.declared.done.Published.{Published}
 use Rattle.machine.specs.Serving.{ByReply, DoesSome, IsNoted, QueuesStay, due_parts}
-use Rattle.machine.specs.Turn.{filled_part, filled_parts, reply_parts}
+use Rattle.machine.specs.Turn.{filled_parts, reply_parts}
 
 pub hands_by : (guest : ℕ) (qs : List Range) (v : Bool) (published : Published) (b b' : Boards)
     (h : HandsReply outbox_state OutboxMakes guest published b b') → v ≡ false
@@ -47,20 +46,6 @@ noted_reply guest ps b d done noted lay its =
     (subst (λ (o : Option Done). IfSome o (λ r.
     IfSome (slice_get (map queue_of b.devices) guest) (λ queue.
     ps ≡ filled_parts r.writable (length r.reply) ++ queue_parts queue))) lay noted)
-
--- one range more
-pub filled_more : (done all : List Range) (ranges : List Range) (i left : ℕ) (r : Range)
-    → i < length ranges → done ++ filled_parts (drop i ranges) left ≡ all
-    → (done ++ filled_part (get_or ranges i r) left)
-    ++ filled_parts (drop (i + 1) ranges) (left - (get_or ranges i r).len) ≡ all
-filled_more done all ranges i left r inside before =
-    append_assoc done _ _ ∙ ap (λ rs. done ++ filled_parts rs left)
-    (sym (drop_more ranges i r inside)) ∙ before
-
-pub filled_all : (done all : List Range) (ranges : List Range) (i left : ℕ)
-    → length ranges ≤ i → done ++ filled_parts (drop i ranges) left ≡ all → done ≡ all
-filled_all done all ranges i left past before = sym (append-nil done)
-    ∙ ap (λ rs. done ++ filled_parts rs left) (sym (at_drop_all (λ x. x) ranges i past)) ∙ before
 
 pub noted_by : (guest : ℕ) (ps : List Range) (b : Boards) (d : AskingState) (done : Done)
     → in_place (slice_get b.rest.dones guest) ≡ Some done → slice_get b.devices guest ≡ Some d

@@ -63,9 +63,6 @@ registers_back guests guest s it =
       flag_back r.status.failed,
     ) refl
 
-numbers_back : (n : ℕ) → low n + 4294967296 * high n ≡ n
-numbers_back n = halves n
-
 used_back : (n : ℕ) → low (n % 18446744073709551616) + 4294967296 * high (n % 18446744073709551616)
     + 18446744073709551616 * (low (n / 18446744073709551616)
     + 4294967296 * high (n / 18446744073709551616)) ≡ n

@@ -150,6 +150,7 @@ module _ (m : MachineState) (guest : ℕ) where
     waiting = waiting;
     limit = no_more (slice_get m.setups guest);
     absent = λ gone. (told.1, refl);
+    short = λ has less. absurd (let no = sym absent ∙ has in cc);
   }
 
   -- there is less room than the largest part has
@@ -174,6 +175,7 @@ module _ (m : MachineState) (guest : ℕ) where
     sync = sync;
     waiting = waiting;
     absent = λ gone. absurd (let no = sym has ∙ gone in cc);
+    short = λ is less. (told.1, refl);
   }
 
   pub has_all : (w : Setup) (turn : TurnState) (d : AskingState) → slice_get m.setups guest ≡ Some w
@@ -188,13 +190,13 @@ module _ (m : MachineState) (guest : ℕ) where
   pub tells_of : (most : ℕ) (w : Setup) (turn turn' : TurnState) (there : Bool)
       (given : List ℕ) (new : Boards) (bytes : List ℕ) (n : Next) (s : Served)
       → slice_get m.setups guest ≡ Some w → slice_get m.turns guest ≡ Some turn
-      → has_guest m guest ≡ true → most ≡ most_of w → IsTold n s
+      → has_guest m guest ≡ true → 16384 ≤ length given → most ≡ most_of w → IsTold n s
       → HearsAnswer guest most turn.asked there given (stand_of turn) m.board turn' bytes new n
       → KeepsLimit guest most m.board.rest new.rest
       → s.sync ≡ (is_over s.what && waits_for_sync new.rest) → s.waiting ≡ owes guest new.rest
       → TellsOf guest there given s bytes m
       (record m { board = new; turns = slice_set m.turns guest turn' })
-  tells_of most w turn turn' there given new bytes n s setup its has limit told h capped sync
+  tells_of most w turn turn' there given new bytes n s setup its has room limit told h capped sync
       waiting =
       let m' : MachineState = record m {
         board = new;
@@ -205,7 +207,7 @@ module _ (m : MachineState) (guest : ℕ) where
       record {
         heard = h.heard;
         left = h.left;
-        takes = λ is room. record {
+        takes = λ is wide. record {
           ok = h.takes.ok;
           takes = subst (λ (t : TurnState). TakesAnswer guest t.asked there given m.board
               h.takes.ok h.heard) was h.takes.takes;
@@ -225,4 +227,5 @@ module _ (m : MachineState) (guest : ℕ) where
         sync = sync;
         waiting = waiting;
         absent = λ gone. absurd (let no = sym has ∙ gone in cc);
+        short = λ is less. absurd (omega (arith, room, less));
       }

@@ -15,7 +15,6 @@ use Rattle.mmio_transport.specs.Popping.{GivesJob}
 use Rattle.mmio_transport.specs.declared.fault.DeviceFault.TheVariants as device_fault
 use Rattle.rpmb_book.specs.declared.refused.Refused.TheVariants as refused
 use Rattle.board.specs.State.{BoardState, HasNoJob, in_place, waiting}
-use Rattle.board.specs.declared.step.Step.{Step}
 use Rattle.board.specs.declared.step.Step.TheVariants as step
 use Rattle.board.specs.declared.step.StepFault.{StepFault}
 use Rattle.board.specs.declared.step.StepFault.TheVariants as step_fault
@@ -40,15 +39,16 @@ pub record FindsNone (guest : ℕ) (b : Boards) : Type 0 where
   pub before : DeviceState
   pub none : GivesJob before (Ok None) device
 
--- one of these steps was a pop of the guest's device, which found no chain
+-- One of these steps was a pop of the guest's device, which looked for a chain, by a copy of what
+-- says whether one is available (`SeesAs`), and found none. A step of the device is begun without
+-- copies, so this one was told in that step.
 pub record Looks (guest : ℕ) (s : Stand) (a : Boards) (v : Stand) (b : Boards) : Type 0 where
   pub before : Boards
   pub first : Runs guest s a (standing [] true) before
   pub parts : List Range
   pub after : Boards
   pub pops : PopsOne guest (Ok Nothing) before parts after
-  pub behind : Stand
-  pub rest : Runs guest behind after v b
+  pub rest : Runs guest (standing parts false) after v b
 
 -- whether the driver is to be notified was seen behind all that its queue used
 abbrev pub SawAll : AskingState → Type 0
@@ -101,16 +101,16 @@ reason_of (step_fault.Book refused.Foreign) = fault.HistoryFull
 reason_of (step_fault.Book refused.HistoryFull) = fault.HistoryFull
 reason_of (step_fault.Store e) = fault.DiskFault
 
--- the steps that take a chain of the guest
-abbrev pub Takes : ℕ → Step → Type 0
-Takes guest s = (s ≡ step.Pop guest) ⊎ (s ≡ step.Submit guest)
-
--- Among the guest's steps from one board to the other one that takes a chain was refused, and the
--- fault is that step's; or memory was refused for what a step is to copy out, or for what was told.
+-- Among the guest's steps from one board to the other a pop of its device was refused, or the book
+-- refused a chain, and the fault is that step's; or memory was refused for what a step is to copy
+-- out, or for what was told.
 pub data HasReason (guest : ℕ) (f : MachineFault) (s : Stand) (a : Boards) (v : Stand) (d : Boards)
     : Type 0 where
-  Refuses : (t u : Stand) (b c : Boards) (x : Step) (e : StepFault) → Runs guest s a t b
-      → Takes guest x → Makes x (Err e) b c → f ≡ reason_of e → Runs guest u c v d
+  PopRefused : (b c : Boards) (e : StepFault) → Runs guest s a (standing [] true) b
+      → Makes (step.Pop guest) (Err e) b c → f ≡ reason_of e → Runs guest (standing [] false) c v d
+      → HasReason guest f s a v d
+  BookRefused : (t : Stand) (b c : Boards) (e : StepFault) → Runs guest s a t b
+      → Makes (step.Submit guest) (Err e) b c → f ≡ reason_of e → Runs guest t c v d
       → HasReason guest f s a v d
   Lacks : f ≡ fault.NoMemory → HasReason guest f s a v d
 

@@ -26,7 +26,7 @@ use Rattle.board.specs.State.{BoardState, owes}
 use Rattle.board.specs.Telling.{telling}
 use Rattle.board.specs.Moving.{Moves}
 use Rattle.machine.specs.Ending.{Begins, EndsFor, HasHeard, IsBusy, IsHandedOn, RestsAt}
-use Rattle.machine.specs.Serving.{AsksIn, Boards, DoesSome, FailsNone, Hears, KeepsLimit}
+use Rattle.machine.specs.Serving.{AsksIn, Boards, DoesSome, FailsNone, HasParts, Hears, KeepsLimit}
 use Rattle.machine.specs.Serving.{OthersStay, Runs, standing}
 use Rattle.machine.specs.Settings.{device_after, most_of, value_shown, value_taken}
 use Rattle.machine.specs.Turn.{Stand, TurnState, fresh_turn, stand_of}
@@ -46,6 +46,10 @@ pub record MachineState : Type 0 where
   pub setups : List Setup
   -- where the serve of each guest stands
   pub turns : List TurnState
+
+-- of all that is to be copied out for a guest its device has copies
+pub record HasCopies (turns : List TurnState) (b : Boards) : Type 0 where
+  pub each : (k : ℕ) → IfSome (slice_get turns k) (λ turn. HasParts k turn.parts b)
 
 -- what a guest reads; 0 where there is no such guest
 abbrev pub shown_by : Option Setup → Option AskingState → (offset width : ℕ) → ℕ
@@ -210,6 +214,9 @@ pub record TellsOf (guest : ℕ) (there : Bool) (given : List ℕ) (s : Served) 
   pub sync : s.sync ≡ (is_over s.what && waits_for_sync new.board.rest)
   pub waiting : s.waiting ≡ owes guest new.board.rest
   pub absent : has_guest old guest ≡ false → (s.fault ≡ Some fault.NoGuest) × (new ≡ old)
+  -- there is less room than the largest part has
+  pub short : has_guest old guest ≡ true → length given < 16384
+      → (s.fault ≡ Some fault.OutOfRange) × (new ≡ old)
 
 -- how it is told
 abbrev pub IsTold : Next → Served → Type 0

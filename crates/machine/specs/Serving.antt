@@ -15,16 +15,17 @@ use Rattle.mmio_transport.specs.Job.{Done}
 use Rattle.mmio_transport.specs.Queue.{popped_by}
 use Rattle.mmio_transport.specs.Written.{queue_parts}
 use Rattle.mmio_transport.specs.declared.done.Published.{Published}
-use Rattle.guest_memory.specs.Memory.{IsAsk, IsHeld, kept}
+use Rattle.guest_memory.specs.Memory.{IsAsk, kept}
 use Rattle.guest_memory.specs.declared.ask.Ask.{Ask}
 use Rattle.board.specs.Asking.{AskingBoardState, ForPop, ForReply, HandsReply, StepsAsked}
 use Rattle.board.specs.State.{BoardState, in_place, waiting}
 use Rattle.board.specs.Steps.{Answer}
+use Rattle.board.specs.declared.step.Seen.{Seen}
 use Rattle.board.specs.declared.step.Seen.TheVariants.{Did, Nothing}
 use Rattle.board.specs.declared.step.Step.{Step}
 use Rattle.board.specs.declared.step.Step.TheVariants as step
 use Rattle.rpmb_book.specs.Book.{due_of}
-use Rattle.machine.specs.Turn.{Stand, filled_parts, pop_parts, reply_parts}
+use Rattle.machine.specs.Turn.{AreCopied, Stand, filled_parts, pop_parts, reply_parts}
 
 abbrev pub Boards : Type 0
 Boards = AskingBoardState OutboxState
@@ -138,12 +139,14 @@ pub record AsksIn (guest : ℕ) (ask : Ask) (b : Boards) : Type 0 where
   pub needed : ForPop device ask
       ⊎ ForReply (in_place (slice_get b.rest.dones guest)) device ask
 
--- Why a guest's device is stopped of itself: of the first part that is to be copied out it has no
--- copy, or more bytes than are copied at once; or it needs more bytes than are told at once.
+-- the guest's device has copies of these parts
+abbrev pub HasParts : ℕ → List Range → Boards → Type 0
+HasParts guest parts b = IfSome (slice_get b.devices guest) (λ d. AreCopied (known d) parts)
+
+-- Why a guest's device is stopped of itself: the first part that is to be copied out has more bytes
+-- than are copied at once; or it needs more bytes than are told at once.
 pub data CantGoOn (guest : ℕ) (qs : List Range) (b : Boards) : Type 0 where
-  NoCopy : (part : Range) (ps : List Range) → qs ≡ part ∷ ps
-      → (16384 < part.len)
-      ⊎ IfSome (slice_get b.devices guest) (λ d. ¬ IsHeld (known d) part.at part.len)
+  TooLong : (part : Range) (ps : List Range) → qs ≡ part ∷ ps → 16384 < part.len
       → CantGoOn guest qs b
   TooMuch : (ask : Ask) → AsksIn guest ask b → 16384 < ask.len → CantGoOn guest qs b
 
@@ -152,6 +155,13 @@ abbrev pub IsGoing : ℕ → Boards → Type 0
 IsGoing guest b = IfSome (slice_get b.devices guest) (λ d.
     d.device.registers.status.needs_reset ≡ false)
 
+-- A pop that wasn't refused, behind DRIVER_OK, has all copied out that it writes.
+pub record WritesAll (device : AskingState) (answer : Answer) (parts : List Range) : Type 0 where
+  pub seen : Seen
+  pub gave : answer ≡ Ok seen
+  pub live : device.device.registers.status.driver_ok ≡ true
+  pub all : parts ≡ pop_parts device.device
+
 -- The guest's device popped: what it wrote is to be copied out, unless it found no chain and that
 -- is in guest memory already.
 pub record PopsOne (guest : ℕ) (answer : Answer) (old : Boards) (parts : List Range)
@@ -159,8 +169,8 @@ pub record PopsOne (guest : ℕ) (answer : Answer) (old : Boards) (parts : List 
   pub makes : Makes (step.Pop guest) answer old new
   pub device : AskingState
   pub its : slice_get old.devices guest ≡ Some device
-  pub parts_are : (parts ≡ pop_parts device.device)
-      ⊎ ((parts ≡ []) × ((answer ≡ Ok Did) → ⊥))
+  pub empty : slice_get old.rest.jobs guest ≡ Some None
+  pub parts_are : WritesAll device answer parts ⊎ ((parts ≡ []) × ((answer ≡ Ok Did) → ⊥))
 
 -- A reply was handed to its device: all that this wrote is to be copied out, in its order.
 pub record HandsOne (guest : ℕ) (old : Boards) (parts : List Range) (new : Boards) : Type 0 where

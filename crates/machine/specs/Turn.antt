@@ -1,6 +1,7 @@
 -- What contracts see of a serve between two calls, and of what its steps are to copy out.
 use Rattle.std.specs.Prelude.{◌≡◌, ℕ, ◌-◌, Bool, false, List, [], ◌∷◌, ◌++◌, length, min, ◌==◌}
 use Rattle.std.specs.Prelude.{if◌then◌else◌}
+use Rattle.guest_memory.specs.Memory.{IsHeld, Known}
 use Rattle.chains.specs.declared.range.Range.{Range}
 use Rattle.mmio_transport.specs.Device.{DeviceState}
 use Rattle.mmio_transport.specs.Job.{Done}
@@ -68,6 +69,11 @@ abbrev pub reply_parts : DeviceState → Done → Published → List Range
 reply_parts d done (Wrote notify) =
     filled_parts done.writable (length done.reply) ++ queue_parts d.queue
 reply_parts d done Dropped = []
+
+-- there are copies of these parts, each in one piece
+abbrev pub AreCopied : Known → List Range → Type 0
+AreCopied memory [] = Unit {0}
+AreCopied memory (part ∷ parts) = IsHeld memory part.at part.len × AreCopied memory parts
 
 -- what a pop wrote: avail_event, where there is one
 abbrev pub pop_parts : DeviceState → List Range

@@ -1,5 +1,5 @@
 //! What a monitor's answer to the last thing that a serve needed does, and what it is asked next.
-ghost use Rattle.std.specs.Prelude.{◌≡◌, ◌<◌, ◌≤◌, ◌⊎◌, [], List, length, take, true, false};
+ghost use Rattle.std.specs.Prelude.{◌≡◌, ◌<◌, ◌≤◌, ◌⊎◌, ◌∷◌, [], List, length, take, true, false};
 ghost use Rattle.std.specs.Prelude.{Bool, Err, IfSome, OnErr, OnOk, Some, slice_get};
 ghost use Rattle.chains.specs.declared.range.Range.{Range as Part};
 ghost use Rattle.guest_memory.specs.Memory.{IsHeld, IsInside, bytes_at};
@@ -7,7 +7,8 @@ ghost use Rattle.guest_memory.specs.declared.ask.Ask.{Ask};
 ghost use Rattle.mmio_transport.specs.Asking.{known};
 ghost use Rattle.machine.specs.Ending.{Begins, HearsAnswer, TakesAnswer, TellsIn};
 ghost use Rattle.machine.specs.Ending.{left_by};
-ghost use Rattle.machine.specs.Serving.{AsksIn, HasStopped, IsGoing, KeepsLimit, RefusesIn, Runs};
+ghost use Rattle.machine.specs.Serving.{AsksIn, HasParts, HasStopped, IsGoing, KeepsLimit};
+ghost use Rattle.machine.specs.Serving.{RefusesIn, Runs};
 ghost use Rattle.machine.specs.Serving.{standing};
 ghost use Rattle.machine.specs.Turn.{stand_of};
 ghost use Rattle.machine.specs.declared.turn.Asked.TheVariants as asked_of;
@@ -159,6 +160,7 @@ fn need(
     requires guest { guest < length board.old.devices }
     requires room { 16384 ≤ length out.old }
     requires asks { (wanted : Ask) → next ≡ Next.Read wanted → AsksIn guest wanted board.old }
+    requires copied { (part : Part) → next ≡ Next.Write part → HasParts guest (part ∷ []) board.old }
     ensures runs { Runs guest (left_by (Some next) turn.old) board.old
         (left_by (Some result) turn.new) board.new }
     ensures same { (result ≡ next) ⊎ ((result ≡ Next.Rest (Some MachineFault.NoMemory))
@@ -204,6 +206,7 @@ pub(crate) fn serve_turn(
 ) -> Next
     requires guest { guest < length board.old.devices }
     requires room { 16384 ≤ length bytes.old }
+    requires copied { HasParts guest turn.old.parts board.old }
     ensures heard { HearsAnswer guest most turn.old.asked is_there bytes.old (stand_of turn.old)
         board.old turn.new bytes.new board.new result }
     ensures limit { KeepsLimit guest most board.old.rest board.new.rest }

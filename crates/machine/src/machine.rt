@@ -9,7 +9,7 @@ ghost use Rattle.machine.specs.Machine.{Completes, Copies, IsServed, LeavesEach,
 ghost use Rattle.machine.specs.Machine.{is_awaited, kick_in, line_by, shown_in};
 ghost use Rattle.machine.specs.Machine.{GoesOn, IsTold, telling_board, waits_for_sync, writes_in};
 ghost use Rattle.machine.specs.Machine.{is_over, left_of};
-ghost use Rattle.machine.specs.Machine.{has_guest, turn_of, written_in};
+ghost use Rattle.machine.specs.Machine.{HasCopies, has_guest, turn_of, written_in};
 
 use crate::answering::{LARGEST_PART, serve_turn};
 use crate::fault::MachineFault;
@@ -68,7 +68,7 @@ pub struct Machine {
 }
 
 impl Model for Machine {
-    ghost use Rattle.machine.specs.Machine.{MachineState};
+    ghost use Rattle.machine.specs.Machine.{HasCopies, MachineState};
 
     ghost Value = { MachineState };
 
@@ -77,6 +77,8 @@ impl Model for Machine {
       setups = m.setups.items;
       turns = m.turns.items;
     } };
+
+    ghost invariant = { λ m. HasCopies m.turns.items m.board };
 }
 
 impl Machine {
@@ -85,6 +87,7 @@ impl Machine {
         setups: Vec<Setup>,
         turns: Vec<Turn>,
     ) -> Machine
+        requires { HasCopies turns.items board }
         ensures { result ≡ record { board = board; setups = setups.items; turns = turns.items } }
     {
         Machine {

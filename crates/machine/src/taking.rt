@@ -102,9 +102,12 @@ fn begin_pop(board: &mut AskingBoard<OutboxDisk>, guest: u16, turn: &mut Turn)
 
 /// Whether the guest's driver has set DRIVER_OK (VIRTIO 1.2, 2.1): before, a pop looks at nothing,
 /// and writes nothing.
-fn is_live(board: &AskingBoard<OutboxDisk>, guest: u16) -> bool {
+fn is_live(board: &AskingBoard<OutboxDisk>, guest: u16) -> bool
+    ensures { result ≡ true → IfSome (slice_get board.now.devices guest)
+        (λ d. d.device.registers.status.driver_ok ≡ true) }
+{
     match board.device_of(guest) {
-        Some(device) => device.read(register::STATUS, 4) & DRIVER_OK != 0,
+        Some(device) => device.read(register::STATUS, 4) / DRIVER_OK % 2 == 1,
         None => false,
     }
 }
@@ -115,6 +118,7 @@ fn found_none(turn: &mut Turn, is_live: bool) -> Taken
     ensures nothing { result ≢ Taken.Did → turn.new.parts ≡ [] }
     ensures did { result ≡ Taken.Did
         → (turn.new.parts ≡ turn.old.parts) × (turn.new.parts ≢ []) }
+    ensures live { result ≡ Taken.Did → is_live ≡ true }
     ensures either { (result ≡ Taken.Nothing) ⊎ (result ≡ Taken.Did) }
     ensures over { turn.new.going ≡ false }
     ensures keeps { KeepsStage turn.old turn.new }

@@ -1,5 +1,5 @@
 -- What a publication writes is there.
-use Rattle.std.proofs.Common.{◌≡◌, ℕ, List, length, Option, Some, subst, sym}
+use Rattle.std.proofs.Common.{◌≡◌, length, Option, Some, subst, sym}
 use Rattle.chains.specs.Range.{AreHeld}
 use Rattle.mmio_transport.specs.Queue.{QueueState, used_held}
 use Rattle.mmio_transport.specs.Asking.{AskingState, known}

@@ -1,8 +1,8 @@
 -- What a device that has all of its memory asks for: nothing.
-use Rattle.std.proofs.Common.{◌≡◌, ℕ, ◌+◌, ◌-◌, ◌*◌, ◌≤◌, ◌<◌, ◌%◌, min, List, [], ◌∷◌, length, Option, None, Some, arith}
+use Rattle.std.proofs.Common.{ℕ, ◌+◌, ◌-◌, ◌≤◌, ◌<◌, min, List, [], ◌∷◌, length, Option, None, Some, arith}
 use Rattle.std.proofs.lemmas.Nat.{mod_below}
 use Rattle.std.proofs.lemmas.List.Elements.{All-head, All-tail}
-use Rattle.guest_memory.specs.Memory.{Known, IsWhole, IsInside}
+use Rattle.guest_memory.specs.Memory.{Known, IsWhole}
 use Rattle.chains.specs.declared.range.Range.{Range}
 use Rattle.chains.specs.Range.{AreHeld, AreInside}
 use Rattle.chains.specs.Ring.{RingState}

@@ -2,22 +2,23 @@
 -- does by the words of a device. Section numbers are those of VIRTIO 1.2.
 use Rattle.std.specs.Prelude.{◌≡◌, ◌⊎◌, ℕ, Bool, true, false, if◌then◌else◌, nat_le, List, [], ◌∷◌}
 use Rattle.std.specs.Prelude.{length, Option, None, Some}
-use Rattle.std.specs.Prelude.{Result, Ok, Err}
+use Rattle.std.specs.Prelude.{Result, Ok, Err, IfSome}
 use Rattle.guest_memory.specs.declared.ask.Ask.{Ask}
 use Rattle.guest_memory.specs.Memory.{Known, Span, IsAsk, told, with_bytes}
 use Rattle.rpmb_frame.specs.declared.config.GuestConfig.{GuestConfig}
 use Rattle.chains.specs.Needs.{IsOfRanges}
 use Rattle.chains.specs.Range.{AreHeld}
-use Rattle.chains.specs.Ring.{after_publish}
 use Rattle.mmio_transport.specs.declared.fault.PopFault.{PopFault}
 use Rattle.mmio_transport.specs.declared.fault.PopFault.TheVariants.{Missing, Refused}
 use Rattle.mmio_transport.specs.declared.fault.DeviceFault.{DeviceFault}
+use Rattle.mmio_transport.specs.declared.fault.DeviceFault.TheVariants as device_fault
 use Rattle.mmio_transport.specs.declared.done.Published.{Published}
 use Rattle.mmio_transport.specs.declared.done.Published.TheVariants.{Wrote, Dropped}
-use Rattle.mmio_transport.specs.Queue.{QueueState, Needs, OfArea, used_held, Tells, TellsFrom}
+use Rattle.mmio_transport.specs.Queue.{QueueState, Needs, OfArea, event_held, seen, used_held, Tells}
+use Rattle.mmio_transport.specs.Queue.{TellsFrom}
 use Rattle.mmio_transport.specs.Job.{Job, Done}
 use Rattle.mmio_transport.specs.Device.{DeviceState, after_write, first_state, is_ready}
-use Rattle.mmio_transport.specs.Popping.{GivesJob}
+use Rattle.mmio_transport.specs.Popping.{GivesJob, live_queue}
 use Rattle.mmio_transport.specs.Publishing.{IsDue, IsDueIn, after_reply, with_notification}
 
 -- A device, and what it knows of its guest's memory.
@@ -99,6 +100,26 @@ abbrev pub GivesOrAsks : AskingState → Result (Option Job) PopFault → Asking
 GivesOrAsks a (Ok popped) a' = DoesAsDevice (λ d d'. GivesJob d (Ok popped) d') a a'
 GivesOrAsks a (Err (Refused fault)) a' = DoesAsDevice (λ d d'. GivesJob d (Err fault) d') a a'
 GivesOrAsks a (Err (Missing ask)) a' = Asks (PopNeeds a.device.queue a.device.memory) ask a a'
+
+-- There is a copy of what says whether a chain is available, where a pop looks for one.
+abbrev pub SeesNext : AskingState → Type 0
+SeesNext a = IfSome (live_queue a.device) (λ queue. seen queue.kind (known a) queue.ring)
+
+-- there is a copy of what it writes then
+abbrev pub HoldsEvent : AskingState → Type 0
+HoldsEvent a = IfSome (live_queue a.device) (λ queue. event_held queue.kind (known a) queue.ring)
+
+-- a fault of the driver's stands on what says whether a chain is available
+abbrev pub SeesFault : AskingState → DeviceFault → Type 0
+SeesFault a (device_fault.Refused fault) = SeesNext a
+SeesFault a device_fault.NoMemory = Unit {0}
+SeesFault a device_fault.NeedsReset = Unit {0}
+
+-- and so does what a pop gives, and that there is nothing; both write only where there is a copy
+abbrev pub SeesFor : {X : Type 0} → AskingState → Result X PopFault → Type 0
+SeesFor a (Ok popped) = SeesNext a × HoldsEvent a
+SeesFor a (Err (Refused fault)) = SeesFault a fault
+SeesFor a (Err (Missing ask)) = Unit {0}
 
 -- there are copies of the parts that the reply and the used fields are written into
 pub record HasRoom (a : AskingState) (queue : QueueState) (done : Done) : Type 0 where

@@ -1,7 +1,7 @@
 -- A device that is saved at rest, and goes on in another one. Section numbers are those of VIRTIO
 -- 1.2.
-use Rattle.std.specs.Prelude.{◌≡◌, ◌<◌, ◌≤◌, ℕ, ◌+◌, ◌*◌, ◌/◌, ◌%◌, ◌==◌, ◌&&◌, Bool, true, false}
-use Rattle.std.specs.Prelude.{if◌then◌else◌, nat_lt, nat_le, max, List, [], length, Option, Some}
+use Rattle.std.specs.Prelude.{◌≡◌, ◌<◌, ◌≤◌, ℕ, ◌+◌, ◌/◌, ◌%◌, ◌==◌, ◌&&◌, Bool, true}
+use Rattle.std.specs.Prelude.{if◌then◌else◌, nat_lt, nat_le, max, length, Option, Some}
 use Rattle.std.specs.Prelude.{None}
 use Rattle.chains.specs.Ring.{resting, may_rest}
 use Rattle.mmio_transport.specs.declared.ring_kind.RingKind.{RingKind}

@@ -3,7 +3,7 @@ ghost use Rattle.std.specs.Prelude.{◌≡◌, ◌≤◌, ◌↔◌, IsTrue, len
 ghost use Rattle.guest_memory.specs.Memory.{IsAsk};
 ghost use Rattle.guest_memory.specs.declared.ask.Ask.{Ask};
 ghost use Rattle.mmio_transport.specs.Asking.{known, GivesOrAsks, HasRoomIn, Notifies, PublishesAsked};
-ghost use Rattle.mmio_transport.specs.Asking.{ReplyNeeds};
+ghost use Rattle.mmio_transport.specs.Asking.{ReplyNeeds, SeesFor};
 ghost use Rattle.mmio_transport.specs.Job.{Job, room_in};
 ghost use Rattle.mmio_transport.specs.Popping.{is_stopped};
 ghost use Rattle.mmio_transport.specs.Publishing.{IsDueIn};
@@ -40,8 +40,8 @@ impl AskingDevice {
     pub fn pop(&mut self) -> Result<Option<Job>, PopFault>
         ensures gives { GivesOrAsks self.old result self.new }
         ensures short { (ask : Ask) → result ≡ Err (PopFault.Missing ask) → ask.len ≤ 16384 }
-        // Nothing is believed but what there is a copy of.
-        ensures fresh { (job : Job) → self.old.held ≡ [] → ¬ (result ≡ Ok (Some job)) }
+        // Nothing is believed of what the driver made available but by a copy of it.
+        ensures sees { SeesFor self.old result }
         ensures whole { (ask : Ask) → self.old.asks ≡ false
             → ¬ (result ≡ Err (PopFault.Missing ask)) }
     {

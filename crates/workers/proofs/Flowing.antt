@@ -121,14 +121,6 @@ pub popped_in : (start old : List Job) (answer : Result (Option Job) DeviceFault
 popped_in start old answer (Ok is) new same t = rw (sym same) (flows_popped old answer is new t)
 popped_in start old answer (Err f) new same t = t
 
-pub collected_in : (b : BookView) (guest : ℕ) (start old : List Done) (r : Result Bool HostFault)
-    (b' : BookView) (new : List Done)
-    → old ≡ start → IfOk r (λ is. Collects b guest old is b' new)
-    → IfOk r (λ is. Flows start (if is then 1 else 0) 0 new)
-collected_in b guest start old (Ok is) b' new same t =
-    rw (sym same) (flows_collected b guest old is b' new t)
-collected_in b guest start old (Err f) b' new same t = t
-
 -- what was pushed stands at the end
 pub last_pushed : {A : Type 0} (xs : List A) (x r : A) (n : ℕ) → n ≡ length xs
     → slice_get (xs ++ x ∷ []) n ≡ Some r → r ≡ x

@@ -1,5 +1,5 @@
 -- The flusher's calls keep the partitions, and what it gives to the store comes after them.
-use Rattle.std.proofs.Common.{◌≡◌, ◌⊎◌, inl, inr, ◌∙◌, ℕ, zero, suc, ◌+◌, ◌≤◌, ◌<◌, ◌^◌, Bool, true}
+use Rattle.std.proofs.Common.{◌≡◌, ◌⊎◌, inl, inr, ◌∙◌, ℕ, suc, ◌+◌, ◌≤◌, ◌<◌, ◌^◌, Bool, true}
 use Rattle.std.proofs.Common.{false, List, [], ◌∷◌, ◌++◌, Option, Some, None, Result, Ok, Err}
 use Rattle.std.proofs.Common.{length, take, drop, refl, ap, ap₂, sym, subst, arith, append_assoc}
 use Rattle.std.proofs.Common.{append-nil, length-append}
@@ -9,7 +9,7 @@ use Rattle.std.proofs.lemmas.Bool.Decides.{nat_tests}
 use Rattle.std.proofs.lemmas.List.{drop-append-le, take-append-drop, take-append-le}
 use Rattle.std.proofs.lemmas.Option.{slice_get_cases, slice_get_within}
 use Rattle.disk.specs.Disk.{DiskCall, DiskState, Effect, HasRisen, Still, Within}
-use Rattle.disk.proofs.Ways.{within_end, within_more, within_weaker}
+use Rattle.disk.proofs.Ways.{within_more, within_weaker}
 use Rattle.intent_slots.specs.Payload.{Group, GroupFits, Intent}
 use Rattle.intent_slots.specs.Recovered.{Part, Stands, after}
 use Rattle.flusher.specs.declared.guest.Guest.{Guest}
@@ -460,11 +460,6 @@ module _ {D : Type 0} (shows : D → DiskState) (makes : D → DiskCall → D �
   risen a b c first second (inl more) = inl (omega (arith, more, first))
   risen a b c first second (inr end) = ended (2 ^ 64) a.failures b.failures c.failures first second
       end
-
-  risen_before : (a b c : DiskState) → b.failures ≤ c.failures → HasRisen a.failures b.failures
-      → HasRisen a.failures c.failures
-  risen_before a b c second (inl more) = inl (omega (arith, more, second))
-  risen_before a b c second (inr end) = inr end
 
   -- a call of the disk
   module _ (effect : (a b : D) (call : DiskCall) → makes a call b → Effect (shows a) call (shows b))

@@ -2,9 +2,10 @@
 use Rattle.std.specs.Prelude.{◌≡◌, ◌≢◌, ◌⊎◌, ℕ, ◌+◌, ◌<◌, ◌≤◌, Bool, true, false, if◌then◌else◌}
 use Rattle.std.specs.Prelude.{List, [], ◌∷◌, ◌++◌, length, Option, Some, None, Result, Ok, Err}
 use Rattle.std.specs.Prelude.{slice_get, take}
-use Rattle.guest_driver.specs.Driver.{Offering, first_driver}
+use Rattle.guest_driver.specs.Driver.{DriverState, Offering, first_driver}
 use Rattle.guest_driver.specs.Negotiation.{is_in_service, negotiated, renegotiated}
 use Rattle.guest_driver.specs.Reap as reap
+use Rattle.guest_driver.specs.declared.config.DriverConfig.{DriverConfig}
 use Rattle.guest_driver.specs.declared.fault.DriverFault.{DriverFault}
 use Rattle.guest_driver.specs.declared.fault.DriverFault.TheVariants.{BadUsed, NoMemory, NoRoom}
 use Rattle.guest_driver.specs.declared.fault.DriverFault.TheVariants.{OutOfRange}
@@ -27,9 +28,10 @@ use Rattle.workers.specs.declared.seat.News.TheVariants as news
 use Rattle.workers.specs.declared.seat.Next.{Next}
 use Rattle.workers.specs.declared.seat.Next.TheVariants.{Again, Rest, End}
 
--- what a driver keeps to itself: how many orders it has taken, how many chains have no answer, why
--- it is stuck, and its answers, in the order of the script
+-- what a driver keeps to itself: its half of the queue, how many orders it has taken, how many
+-- chains have no answer, why it is stuck, and its answers, in the order of the script
 pub record At : Type 0 where
+  pub queue : DriverState
   pub next : ℕ
   pub outstanding : ℕ
   pub stuck : Option Stuck
@@ -37,15 +39,22 @@ pub record At : Type 0 where
 
 abbrev pub at : Driver → At
 at d = record {
+  queue = d.queue;
   next = d.next;
   outstanding = d.outstanding;
   stuck = d.stuck;
   answers = d.answers.items;
 }
 
--- a driver that has done nothing yet
-abbrev pub begun : Option Stuck → At
-begun stuck = record { next = 0; outstanding = 0; stuck = stuck; answers = [] }
+-- a driver that sets up its queue so, and has offered nothing yet
+abbrev pub begun : DriverConfig → Option Stuck → At
+begun config stuck = record {
+  queue = first_driver config;
+  next = 0;
+  outstanding = 0;
+  stuck = stuck;
+  answers = [];
+}
 
 -- 1. Answers
 
@@ -64,12 +73,12 @@ KeepsTold (Err fault) old moved stuck new = ⊥
 -- answer is why it is; else it reaps once, and keeps what that told.
 abbrev pub AnswersBy : Option Stuck → At → Guest → Bool → At → Guest → Type 0
 AnswersBy (Some why) old guest moved new guest' =
-    (moved ≡ true) × (new.stuck ≡ Some why) × (guest' ≡ guest)
+    (moved ≡ true) × (new.stuck ≡ Some why) × (guest' ≡ guest) × (new.queue ≡ old.queue)
     × (new.answers ≡ old.answers ++ Unanswered why ∷ [])
 AnswersBy None old guest moved new guest' =
-    (guest'.device ≡ guest.device) × (guest'.stopped ≡ guest.stopped)
+    (guest' ≡ guest)
     × ((reaped : Result (Option Reaped) DriverFault)
-    × reap.Reaps guest.device.memory guest.driver reaped guest'.driver
+    × reap.Reaps guest.device.memory old.queue reaped new.queue
     × KeepsTold (told reaped guest.stopped) old.answers moved new.stuck new.answers)
 
 -- With no chain that has no answer, nothing moves.
@@ -77,7 +86,7 @@ pub record Answers (old : At) (guest : Guest) (moved : Bool) (new : At) (guest' 
     : Type 0 where
   pub none : old.outstanding ≡ 0
       → (moved ≡ false) × (new.stuck ≡ old.stuck) × (guest' ≡ guest)
-      × (new.answers ≡ old.answers)
+      × (new.queue ≡ old.queue) × (new.answers ≡ old.answers)
   pub oldest : 0 < old.outstanding → AnswersBy old.stuck old guest moved new guest'
   pub place : new.next ≡ old.next
 
@@ -98,47 +107,53 @@ IsToldBy (Err NoMemory) outstanding result = result ≡ Err (fault_of NoMemory)
 IsToldBy (Err BadUsed) outstanding result = result ≡ Err (fault_of BadUsed)
 
 -- the chain was offered whole, whatever came of it
-pub record IsOffered (outstanding : ℕ) (chain : Chain) (guest : Guest)
-    (result : Result Bool HostFault) (guest' : Guest) : Type 0 where
+pub record IsOffered (outstanding : ℕ) (chain : Chain) (queue : DriverState) (guest : Guest)
+    (result : Result Bool HostFault) (queue' : DriverState) (guest' : Guest) : Type 0 where
   pub answer : Result ℕ DriverFault
-  pub offering : Offering guest.device.memory guest.driver chain.readable.items chain.writable
-      answer guest'.device.memory guest'.driver
+  pub offering : Offering guest.device.memory queue chain.readable.items chain.writable
+      answer guest'.device.memory queue'
   pub told : IsToldBy answer outstanding result
   pub device : guest'.device ≡ record guest.device { memory = guest'.device.memory }
   pub stopped : guest'.stopped ≡ guest.stopped
 
 -- A chain is offered where at most 255 have no answer, and waits else. Of a stuck driver it only
 -- counts.
-abbrev pub OffersBy : Option Stuck → ℕ → Chain → Guest → Result Bool HostFault → Guest → Type 0
-OffersBy (Some why) outstanding chain guest result guest' =
-    (guest' ≡ guest) × (outstanding < 256 → result ≡ Ok true)
+abbrev pub OffersBy : Option Stuck → ℕ → Chain → DriverState → Guest → Result Bool HostFault
+    → DriverState → Guest → Type 0
+OffersBy (Some why) outstanding chain queue guest result queue' guest' =
+    (guest' ≡ guest) × (queue' ≡ queue) × (outstanding < 256 → result ≡ Ok true)
     × (256 ≤ outstanding → result ≡ Ok false)
-OffersBy None outstanding chain guest result guest' =
-    (outstanding < 256 → IsOffered outstanding chain guest result guest')
-    × (256 ≤ outstanding → (result ≡ Ok false) × (guest' ≡ guest))
+OffersBy None outstanding chain queue guest result queue' guest' =
+    (outstanding < 256 → IsOffered outstanding chain queue guest result queue' guest')
+    × (256 ≤ outstanding → (result ≡ Ok false) × (queue' ≡ queue) × (guest' ≡ guest))
 
 -- the driver has negotiated with its device, which is in service then, or isn't
-pub record IsBegun (guest guest' : Guest) (stuck : Option Stuck) : Type 0 where
-  pub device : guest'.device ≡ negotiated guest.device guest.driver.config
-  pub driver : guest'.driver ≡ first_driver guest.driver.config
+pub record IsBegun (config : DriverConfig) (guest guest' : Guest) (stuck : Option Stuck)
+    : Type 0 where
+  pub device : guest'.device ≡ negotiated guest.device config
   pub told : stuck ≡ (if is_in_service guest'.device then None else Some NoAnswer)
 
 -- the driver has reset its device, and brought it into service again where it could
-pub record IsRestarted (guest guest' : Guest) (stuck : Option Stuck) : Type 0 where
-  pub device : guest'.device ≡ renegotiated guest.device guest.driver.config
-  pub driver : guest'.driver ≡ first_driver guest.driver.config
+pub record IsRestarted (config : DriverConfig) (guest guest' : Guest) (queue' : DriverState)
+    (stuck : Option Stuck) : Type 0 where
+  pub device : guest'.device ≡ renegotiated guest.device config
+  pub queue : queue' ≡ first_driver config
   pub stopped : guest'.stopped ≡ false
   pub told : stuck ≡ (if is_in_service guest'.device then None else Some NoAnswer)
 
 -- What a driver does with its next order. A reset waits until each chain has its answer.
 abbrev pub TakesOrder : Option Order → At → Guest → Result Bool HostFault → At → Guest → Type 0
 TakesOrder None old guest result new guest' =
-    (result ≡ Ok false) × (new.stuck ≡ old.stuck) × (guest' ≡ guest)
+    (result ≡ Ok false) × (new.stuck ≡ old.stuck) × (new.queue ≡ old.queue) × (guest' ≡ guest)
 TakesOrder (Some (Offer chain)) old guest result new guest' =
-    (new.stuck ≡ old.stuck) × OffersBy old.stuck old.outstanding chain guest result guest'
+    (new.stuck ≡ old.stuck)
+    × OffersBy old.stuck old.outstanding chain old.queue guest result new.queue guest'
 TakesOrder (Some Reset) old guest result new guest' =
-    (old.outstanding ≡ 0 → (result ≡ Ok true) × IsRestarted guest guest' new.stuck)
-    × (0 < old.outstanding → (result ≡ Ok false) × (new.stuck ≡ old.stuck) × (guest' ≡ guest))
+    (old.outstanding ≡ 0
+    → (result ≡ Ok true) × IsRestarted old.queue.config guest guest' new.queue new.stuck)
+    × (0 < old.outstanding
+    → (result ≡ Ok false) × (new.stuck ≡ old.stuck) × (new.queue ≡ old.queue)
+    × (guest' ≡ guest))
 
 -- 3. Steps
 
@@ -193,21 +208,23 @@ pub record GoesTo (number : ℕ) (script : List Order) (from to : At) : Type 0 w
   pub moves : List Move
   pub went : Went number script from moves to
 
--- A driver found the device of the guest of this number, and negotiated with it.
-pub record Finds (number : ℕ) (stuck : Option Stuck) : Type 0 where
+-- A driver found the device of the guest of this number, and negotiated with it, by this
+-- configuration of its queue.
+pub record Finds (number : ℕ) (config : DriverConfig) (stuck : Option Stuck) : Type 0 where
   pub found : Guest
   pub guest : Guest
   pub own : found.device.guest ≡ number
-  pub begins : IsBegun found guest stuck
+  pub begins : IsBegun config found guest stuck
 
--- A driver ran its script: it negotiated with the device of its own guest, whose number this is,
--- and went by steps on that guest's device, from what that told, to the end of the script. Each
--- chain of it has its answer.
-pub record Ran (number : ℕ) (script : List Order) (answers : List Answer) : Type 0 where
+-- A driver of this configuration ran its script: it negotiated with the device of its own guest,
+-- whose number this is, and went by steps on that guest's device, from what that told, to the end
+-- of the script. Each chain of it has its answer.
+pub record Ran (number : ℕ) (config : DriverConfig) (script : List Order) (answers : List Answer)
+    : Type 0 where
   pub first : Option Stuck
   pub last : At
-  pub begins : Finds number first
-  pub goes : GoesTo number script (begun first) last
+  pub begins : Finds number config first
+  pub goes : GoesTo number script (begun config first) last
   pub whole : last.next ≡ length script
   pub none : last.outstanding ≡ 0
   pub told : last.answers ≡ answers

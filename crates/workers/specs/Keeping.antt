@@ -1,6 +1,6 @@
 -- What the flusher's calls leave of the partitions at each moment: whole intents, one after
 -- another.
-use Rattle.std.specs.Prelude.{◌≡◌, ◌⊎◌, ℕ, ◌≤◌, ◌<◌, Bool, true, List, [], ◌∷◌, ◌++◌, length, take}
+use Rattle.std.specs.Prelude.{◌≡◌, ◌⊎◌, ℕ, ◌≤◌, ◌<◌, true, List, [], ◌∷◌, ◌++◌, length, take}
 use Rattle.std.specs.Prelude.{drop, Option, Some, None, Ok, slice_get}
 use Rattle.disk.specs.Content.{Content}
 use Rattle.disk.specs.Disk.{DiskCall, DiskState, HasRisen, MayLeave, Within}

@@ -1,6 +1,7 @@
 //! The threads of a scope: started, run to their end, and joined.
 ghost use Rattle.std.specs.Prelude.{◌≡◌, ◌<◌, ℕ, [], IfOk, IfSome, vec_len, slice_index_or, length};
 ghost use Rattle.std.specs.Prelude.{map};
+ghost use Rattle.guest_driver.specs.declared.config.DriverConfig.{DriverConfig};
 ghost use Rattle.workers.specs.Crew.{guests_of};
 ghost use Rattle.workers.specs.Following.{Follows};
 ghost use Rattle.workers.specs.Keeping.{LeftBy};
@@ -17,6 +18,7 @@ use crate::scripts::Script;
 use crate::seat::{Guest, Seat};
 use crate::worker::Worker;
 use disk::Disk;
+use guest_driver::DriverConfig;
 use host::HostFault;
 use std::alloc::Global;
 use std::snapshot::Snapshot;
@@ -62,12 +64,12 @@ impl<L: Ledger> Promise<Worker<L>> for OfGuest {
     ghost kept_by = { λ p w. w.backlog.tally.guest ≡ p.0 };
 }
 
-/// A driver of the guest of this number, and of this script.
+/// A driver of the guest of this number, of this configuration, and of this script.
 #[derive(Drop)]
-pub(crate) struct OfScript(u16, Snapshot<Script>);
+pub(crate) struct OfScript(u16, DriverConfig, Snapshot<Script>);
 
 impl Promise<DriverEnd> for OfScript {
-    ghost kept_by = { λ p e. LeavesAll p.0 e.complete e.answers.items p.1.value };
+    ghost kept_by = { λ p e. LeavesAll p.0 p.1 e.complete e.answers.items p.2.value };
 }
 
 /// The end of this flusher.
@@ -120,10 +122,11 @@ fn start_driver<'s, E, L: Ledger + Send + Sync, R: Wait + Sync>(
     rt: &'s R,
     alloc: Global,
     seat: Seat<'s, L>,
+    config: &'s DriverConfig,
     script: &'s Script,
 ) -> Result<PromisedHandle<DriverEnd, OfScript>, HostFault>
     ensures { IfOk result (λ h. (h.promise.0 ≡ seat.entry.number)
-        × (h.promise.1.value ≡ script.now)) }
+        × (h.promise.1 ≡ config.now) × (h.promise.2.value ≡ script.now)) }
 {
     let orders = script.orders();
     let Seat {
@@ -135,10 +138,11 @@ fn start_driver<'s, E, L: Ledger + Send + Sync, R: Wait + Sync>(
         worker,
     } = seat;
     let started = scope.spawn_with(
-        OfScript(number, Snapshot::of(script)),
+        OfScript(number, *config, Snapshot::of(script)),
         move || -> DriverEnd
-            ensures { LeavesAll number result.complete result.answers.items orders.entry.now }
-        { drive(rt, alloc, number, guest, bell, me, worker, orders) },
+            ensures { LeavesAll number config.entry.now result.complete result.answers.items
+                orders.entry.now }
+        { drive(rt, alloc, number, guest, bell, me, worker, config, orders) },
     );
     match started {
         Ok(handle) => Ok(handle),
@@ -202,25 +206,31 @@ fn start_workers<'s, E, L: Ledger + Send + Sync, G: Gate + Sync, R: Wait + Sync>
     Ok(started)
 }
 
-/// Starts a driver for each script.
+/// Starts a driver for each script. `Foreign` where one lacks a configuration.
 fn start_drivers<'s, E, L: Ledger + Send + Sync, R: Wait + Sync>(
     scope: &'s Scope<'s, E>,
     rt: &'s R,
     alloc: Global,
     hall: &'s Hall<L>,
+    configs: &'s [DriverConfig],
     scripts: &'s [Script],
 ) -> Result<Vec<PromisedHandle<DriverEnd, OfScript>>, HostFault>
     ensures len { IfOk result (λ v. vec_len v ≡ length scripts.now) }
     ensures each { IfOk result (λ v. (i : ℕ) (d : _) → i < length scripts.now
         → ((slice_index_or v.items i d).promise.0 ≡ i)
-        × (slice_index_or scripts.now i [] ≡ (slice_index_or v.items i d).promise.1.value)) }
+        × (slice_index_or scripts.now i [] ≡ (slice_index_or v.items i d).promise.2.value)) }
+    ensures configs { IfOk result (λ v. (i : ℕ) (d : _) (c : DriverConfig) → i < length scripts.now
+        → slice_index_or configs.now i c ≡ (slice_index_or v.items i d).promise.1) }
 {
     let mut started = Vec::new(alloc);
     for i in 0..scripts.len() {
         let Some(seat) = hall.seat(i) else {
             return Err(HostFault::Foreign);
         };
-        let handle = start_driver(scope, rt, alloc, seat, &scripts[i])?;
+        let Some(config) = configs.get(i) else {
+            return Err(HostFault::Foreign);
+        };
+        let handle = start_driver(scope, rt, alloc, seat, config, &scripts[i])?;
         if started.push(handle).is_err() {
             return Err(HostFault::NoMemory);
         }
@@ -243,6 +253,7 @@ fn start_all<
     hall: &'s Hall<L>,
     gate: &'s G,
     workers: Vec<Worker<L>>,
+    configs: &'s [DriverConfig],
     scripts: &'s [Script],
     flusher: Flusher<D>,
 ) -> Result<Started<L, D>, HostFault>
@@ -253,11 +264,13 @@ fn start_all<
     ensures each { IfOk result (λ s. (i : ℕ) (d : _) → i < length scripts.now
         → ((slice_index_or s.drivers.items i d).promise.0 ≡ i)
         × (slice_index_or scripts.now i []
-        ≡ (slice_index_or s.drivers.items i d).promise.1.value)) }
+        ≡ (slice_index_or s.drivers.items i d).promise.2.value)) }
+    ensures configs { IfOk result (λ s. (i : ℕ) (d : _) (c : DriverConfig) → i < length scripts.now
+        → slice_index_or configs.now i c ≡ (slice_index_or s.drivers.items i d).promise.1) }
     ensures flusher { IfOk result (λ s. s.flusher.promise.0.value ≡ flusher) }
 {
     let workers = start_workers(scope, rt, alloc, hall, gate, workers)?;
-    let drivers = start_drivers(scope, rt, alloc, hall, scripts)?;
+    let drivers = start_drivers(scope, rt, alloc, hall, configs, scripts)?;
     let flusher = start_flusher(scope, rt, hall, gate, flusher)?;
     Ok(Started {
         workers,
@@ -270,18 +283,22 @@ fn start_all<
 fn join_all<L: Ledger, D: Disk + Drop, R: Threads>(
     rt: &R,
     started: Started<L, D>,
+    configs: &[DriverConfig],
     scripts: &[Script],
 ) -> Result<Crew<L, D>, HostFault>
     requires len { vec_len started.drivers ≡ length scripts.now }
     requires each { (i : ℕ) (d : _) → i < length scripts.now
         → ((slice_index_or started.drivers.items i d).promise.0 ≡ i)
         × (slice_index_or scripts.now i []
-        ≡ (slice_index_or started.drivers.items i d).promise.1.value) }
+        ≡ (slice_index_or started.drivers.items i d).promise.2.value) }
+    requires configs { (i : ℕ) (d : _) (c : DriverConfig) → i < length scripts.now
+        → slice_index_or configs.now i c ≡ (slice_index_or started.drivers.items i d).promise.1 }
     ensures joined { IfOk result
-        (AreJoined (map (λ h. h.promise.0) started.workers.items) scripts.now) }
+        (AreJoined (map (λ h. h.promise.0) started.workers.items) configs.now scripts.now) }
     ensures flusher { IfOk result (λ c. LeftBy D.state D.makes
         started.flusher.promise.0.value c.flusher.flusher) }
 {
+    let _ = configs; // for the checker: clauses name it
     let Started {
         workers,
         drivers,
@@ -316,15 +333,18 @@ fn run_in<
     hall: &'s Hall<L>,
     gate: &'s G,
     workers: Vec<Worker<L>>,
+    configs: &'s [DriverConfig],
     scripts: &'s [Script],
     flusher: Flusher<D>,
 ) -> Result<Crew<L, D>, HostFault>
     requires { Follows flusher.keeper }
-    ensures joined { IfOk result (AreJoined (guests_of workers.items) scripts.now) }
+    ensures joined { IfOk result (AreJoined (guests_of workers.items) configs.now scripts.now) }
     ensures flusher { IfOk result (λ c. LeftBy D.state D.makes flusher c.flusher.flusher) }
 {
-    match start_all(scope, rt, alloc, hall, gate, workers, scripts, flusher) {
-        Ok(started) => join_all(rt, started, scripts),
+    match start_all(
+        scope, rt, alloc, hall, gate, workers, configs, scripts, flusher,
+    ) {
+        Ok(started) => join_all(rt, started, configs, scripts),
         Err(fault) => {
             hall.bell.stop(rt);
             Err(fault)
@@ -344,11 +364,12 @@ pub(crate) fn run_all<
     hall: &Hall<L>,
     gate: &G,
     workers: Vec<Worker<L>>,
+    configs: &[DriverConfig],
     scripts: &[Script],
     flusher: Flusher<D>,
 ) -> Result<Crew<L, D>, HostFault>
     requires { Follows flusher.keeper }
-    ensures joined { IfOk result (AreJoined (guests_of workers.items) scripts.now) }
+    ensures joined { IfOk result (AreJoined (guests_of workers.items) configs.now scripts.now) }
     ensures flusher { IfOk result (λ c. LeftBy D.state D.makes flusher c.flusher.flusher) }
 {
     thread::scope(
@@ -357,9 +378,13 @@ pub(crate) fn run_all<
         |scope| -> Result<Crew<L, D>, HostFault>
             requires { Follows flusher.keeper }
             ensures joined { IfOk result
-                (AreJoined (guests_of workers.items) scripts.entry.now) }
+                (AreJoined (guests_of workers.items) configs.entry.now scripts.entry.now) }
             ensures flusher { IfOk result
                 (λ c. LeftBy D.state D.makes flusher c.flusher.flusher) }
-        { run_in(scope, rt, alloc, hall, gate, workers, scripts, flusher) },
+        {
+            run_in(
+                scope, rt, alloc, hall, gate, workers, configs, scripts, flusher,
+            )
+        },
     )
 }

@@ -8,10 +8,12 @@ use crate::order::Order;
 use host::{Answer, HostFault, Stuck};
 use std::alloc::Global;
 
-/// How far a guest's driver is in its script, how many of its chains have no answer yet, and the
-/// answers to the others, in the order of the script.
+/// A guest's driver: its half of the queue, how far it is in its script, how many of its chains
+/// have no answer yet, and the answers to the others, in the order of the script.
 #[derive(Drop)]
 pub(crate) struct Driver<'a> {
+    /// The driver's half of the queue.
+    pub(crate) queue: guest_driver::Driver,
     script: &'a [Order],
     next: usize,
     outstanding: usize,
@@ -35,11 +37,12 @@ pub struct DriverEnd {
 
 impl<'a> Driver<'a> {
     /// A driver of this script that has done nothing yet.
-    pub(crate) fn new(alloc: Global, script: &'a [Order]) -> Driver<'a>
-        ensures script { result.script ≡ script.entry }
+    pub(crate) fn new(alloc: Global, queue: guest_driver::Driver, script: &'a [Order]) -> Driver<'a>
+        ensures script { (result.script ≡ script.entry) × (result.queue ≡ queue) }
         ensures begun { (result.next ≡ 0) × (result.outstanding ≡ 0) × (result.answers.items ≡ []) }
     {
         Driver {
+            queue,
             script,
             next: 0,
             outstanding: 0,
@@ -52,7 +55,7 @@ impl<'a> Driver<'a> {
     pub(crate) fn renew(&mut self, in_service: bool)
         ensures stays { (self.new.script ≡ self.old.script) × (self.new.next ≡ self.old.next)
             × (self.new.outstanding ≡ self.old.outstanding)
-            × (self.new.answers ≡ self.old.answers) }
+            × (self.new.answers ≡ self.old.answers) × (self.new.queue ≡ self.old.queue) }
         ensures stuck { self.new.stuck ≡ (if in_service then None else Some Stuck.NoAnswer) }
     {
         self.stuck = if in_service {
@@ -66,7 +69,7 @@ impl<'a> Driver<'a> {
     pub(crate) fn stick(&mut self, stuck: Stuck)
         ensures stays { (self.new.script ≡ self.old.script) × (self.new.next ≡ self.old.next)
             × (self.new.outstanding ≡ self.old.outstanding)
-            × (self.new.answers ≡ self.old.answers) }
+            × (self.new.answers ≡ self.old.answers) × (self.new.queue ≡ self.old.queue) }
         ensures stuck { self.new.stuck ≡ Some stuck }
     {
         self.stuck = Some(stuck);
@@ -76,7 +79,7 @@ impl<'a> Driver<'a> {
     pub(crate) fn answer(&mut self, answer: Answer) -> Result<bool, HostFault>
         requires { 0 < self.old.outstanding }
         ensures stays { (self.new.script ≡ self.old.script) × (self.new.next ≡ self.old.next)
-            × (self.new.stuck ≡ self.old.stuck) }
+            × (self.new.stuck ≡ self.old.stuck) × (self.new.queue ≡ self.old.queue) }
         ensures last { IfOk result (λ moved. (moved ≡ true)
             × (self.new.answers.items ≡ self.old.answers.items ++ answer ∷ [])) }
     {
@@ -116,7 +119,7 @@ impl<'a> Driver<'a> {
         requires chain { chains_in order.now ≡ 1 }
         requires room { self.old.outstanding < 256 }
         ensures script { (self.new.script ≡ self.old.script)
-            × (self.new.answers ≡ self.old.answers) }
+            × (self.new.answers ≡ self.old.answers) × (self.new.queue ≡ self.old.queue) }
         ensures next { (self.new.next ≡ self.old.next + 1) × (self.new.stuck ≡ self.old.stuck) }
     {
         self.outstanding += 1;
@@ -129,7 +132,7 @@ impl<'a> Driver<'a> {
         requires here { slice_get self.old.script.now self.old.next ≡ Some order.now }
         requires reset { chains_in order.now ≡ 0 }
         ensures script { (self.new.script ≡ self.old.script)
-            × (self.new.answers ≡ self.old.answers) }
+            × (self.new.answers ≡ self.old.answers) × (self.new.queue ≡ self.old.queue) }
         ensures next { (self.new.next ≡ self.old.next + 1) × (self.new.stuck ≡ self.old.stuck) }
     {
         let _ = order; // for the checker: clauses name it
@@ -151,6 +154,7 @@ impl<'a> Driver<'a> {
         ensures { result ≡ self.entry.answers }
     {
         let Driver {
+            queue: _,
             script: _,
             next: _,
             outstanding: _,

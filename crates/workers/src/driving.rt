@@ -1,5 +1,6 @@
 //! What a guest's driver does: it offers the chains of its script, and answers each.
 ghost use Rattle.std.specs.Prelude.{◌≡◌, IfOk, OnOk, Ok, Some, true, length, slice_get, vec_len};
+ghost use Rattle.guest_driver.specs.Driver.{first_driver};
 ghost use Rattle.workers.specs.Driving.{Answers, Drives, Finds, GoesOn, GoesTo, Offers, OffersBy};
 ghost use Rattle.workers.specs.Driving.{Steps, TakesOrder, at, begun};
 ghost use Rattle.workers.specs.Ends.{LeavesAll, completes, fault_in};
@@ -9,7 +10,7 @@ use crate::bell::{Actor, Bell, Rest};
 use crate::driver::{Driver, DriverEnd};
 use crate::order::{Chain, Order};
 use crate::seat::{Guest, News, Next, fault_of};
-use guest_driver::DriverFault;
+use guest_driver::{DriverConfig, DriverFault};
 use host::{Answer, HostFault};
 use std::alloc::Global;
 use std::sync::{Mutex, Wait};
@@ -30,7 +31,7 @@ impl<'a> Driver<'a> {
         if let Some(stuck) = self.stuck() {
             return self.answer(Answer::Stuck(stuck));
         }
-        match guest.look().told()? {
+        match guest.look(&mut self.queue).told()? {
             News::Reply(bytes) => self.answer(Answer::Used(bytes)),
             News::NoReply(stuck) => {
                 self.stick(stuck);
@@ -58,7 +59,7 @@ impl<'a> Driver<'a> {
                 if self.outstanding() != 0 {
                     return Ok(false);
                 }
-                let in_service = guest.restart();
+                let in_service = guest.restart(&mut self.queue);
                 self.count_reset(order);
                 self.renew(in_service);
                 Ok(true)
@@ -79,14 +80,14 @@ impl<'a> Driver<'a> {
         ensures script { (self.new.script ≡ self.old.script)
             × (self.new.answers ≡ self.old.answers) × (self.new.stuck ≡ self.old.stuck) }
         ensures next { IfOk result (λ moved. Offers self.old.next moved self.new.next) }
-        ensures offered { OffersBy self.old.stuck self.old.outstanding chain.now guest.old result
-            guest.new }
+        ensures offered { OffersBy self.old.stuck self.old.outstanding chain.now self.old.queue
+            guest.old result self.new.queue guest.new }
     {
         if self.outstanding() >= PLACES {
             return Ok(false);
         }
         if self.stuck().is_none() {
-            match guest.offer(chain.readable(), chain.writable()) {
+            match guest.offer(&mut self.queue, chain.readable(), chain.writable()) {
                 Ok(_) => {}
                 Err(DriverFault::NoRoom) if self.outstanding() > 0 => return Ok(false),
                 Err(fault) => return Err(fault_of(fault)),
@@ -186,11 +187,12 @@ impl<'a> Driver<'a> {
         ensures script { (self.new.script ≡ self.old.script) × (self.new.next ≡ self.old.next)
             × (self.new.outstanding ≡ self.old.outstanding)
             × (self.new.answers ≡ self.old.answers) }
-        ensures finds { Finds result self.new.stuck }
+        ensures finds { Finds result self.old.queue.config self.new.stuck }
+        ensures queue { self.new.queue ≡ first_driver self.old.queue.config }
     {
         let mut held = guest.lock(rt);
         let number = held.number();
-        let in_service = held.begin();
+        let in_service = held.begin(&mut self.queue);
         self.renew(in_service);
         number
     }
@@ -207,8 +209,9 @@ impl<'a> Driver<'a> {
         me: Actor,
         worker: Actor,
     ) -> DriverEnd
-        requires { at self ≡ begun self.stuck }
-        ensures { LeavesAll number result.complete result.answers.items self.entry.script.now }
+        requires { at self ≡ begun self.queue.config self.stuck }
+        ensures { LeavesAll number self.entry.queue.config result.complete result.answers.items
+            self.entry.script.now }
     {
         let found = self.begin(rt, guest);
         let worked = on_own(found, number, self.work(rt, found, guest, bell, me, worker));
@@ -249,8 +252,9 @@ fn end_of(answers: Vec<Answer>, worked: Result<bool, HostFault>) -> DriverEnd
     }
 }
 
-/// Runs the script of the guest of this number to its end, or until all are to end. It is `Foreign`
-/// where the device is another guest's.
+/// Runs the script of the guest of this number to its end, or until all are to end, by a driver of
+/// this configuration. It is `Foreign` where the device is another guest's, and `NoMemory` where no
+/// driver can be made; then all are to end.
 pub(crate) fn drive<R: Wait>(
     rt: &R,
     alloc: Global,
@@ -259,9 +263,14 @@ pub(crate) fn drive<R: Wait>(
     bell: &Bell,
     me: Actor,
     worker: Actor,
+    config: &DriverConfig,
     script: &[Order],
 ) -> DriverEnd
-    ensures { LeavesAll number result.complete result.answers.items script.now }
+    ensures { LeavesAll number config.now result.complete result.answers.items script.now }
 {
-    Driver::new(alloc, script).run(rt, number, guest, bell, me, worker)
+    let Ok(queue) = guest_driver::Driver::new(alloc, config) else {
+        bell.stop(rt);
+        return end_of(Vec::new(alloc), Err(HostFault::NoMemory));
+    };
+    Driver::new(alloc, queue, script).run(rt, number, guest, bell, me, worker)
 }

@@ -71,10 +71,6 @@ record Follows (d d' : DeviceState) : Type 0 where
 follows_kept : (d d' : DeviceState) → Keeps d d' → Follows d d'
 follows_kept d d' x2 = grind arith
 
-behind_kept : (n : QueueName) (d d' : DeviceState) → n.readiness < last_count → IsBehind n d
-    → Follows d d' → IsBehind n d'
-behind_kept n d d' readied behind follows = grind arith
-
 abbrev AllFollow : List DeviceState → List DeviceState → Type 0
 AllFollow ds ds' = (g : ℕ) (d' : DeviceState) → slice_get ds' g ≡ Some d' → (d : DeviceState)
     × (slice_get ds g ≡ Some d) × Follows d d'

@@ -8,9 +8,10 @@ use Rattle.commands.proofs.serving.serve.Goals as goal
 
 pub returns-in-Ok-clause-printed : goal.returns-in-Ok-clause-printed
 returns-in-Ok-clause-printed g c =
-    rw (sym c.board-board.ensures) (on_ok_weaker c.serve_on.result.0 (λ printed lines is.
-    subst (λ x. PrintsEach (length c.board-board.result.now) x (g.W.Write.contents c.args.out.now)
-    (g.W.Write.contents c.serve_on.new.out))
+    rw (sym c.board-board.ensures, sym c.drivers.ensures.value) (on_ok_weaker c.serve_on.result.0
+    (λ printed lines is.
+    subst (λ x. PrintsEach (length c.board-board.result.now) c.drivers.result.now x
+    (g.W.Write.contents c.args.out.now) (g.W.Write.contents c.serve_on.new.out))
     (sym (says_same lines c.in-Ok.lines.items _ is c.in-Ok.ensures.ok)) printed)
     c.serve_on.ensures.printed)
 
@@ -32,7 +33,8 @@ returns-in-Err-clause-ends g c =
 
 pub returns-in-Ok-clause-prints : goal.returns-in-Ok-clause-prints
 returns-in-Ok-clause-prints g c =
-    rw (sym c.board-board.ensures) (serve_prints c.board-board.result.now c.args.script.now
+    rw (sym c.board-board.ensures, sym c.drivers.ensures.value) (serve_prints
+    c.board-board.result.now c.drivers.result.now c.args.script.now
     c.in-Ok.lines.items
     (g.W.Write.contents c.args.out.now) (g.W.Write.contents c.serve_on.new.out)
     c.serve_on.result.0 c.in-Ok.ensures.ok c.serve_on.ensures.prints)
@@ -45,7 +47,8 @@ returns-in-Ok-clause-bad g c =
 
 pub returns-in-Err-clause-prints : goal.returns-in-Err-clause-prints
 returns-in-Err-clause-prints g c =
-    rw (sym c.board-board.ensures) (unread_prints c.board-board.result.now c.args.script.now
+    rw (sym c.board-board.ensures) (unread_prints c.board-board.result.now
+    c.args.setup.now.drivers c.args.script.now
     c.in-Err.fault
     (g.W.Write.contents c.args.out.now) c.in-Err.ensures.reads)
 

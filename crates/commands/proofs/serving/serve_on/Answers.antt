@@ -38,11 +38,11 @@ returns-in-Ok-serve-clause-printed g c =
     let as_many : length scripts.items ≡ length c.args.board.now =
     omega (arith, scripts.ok, c.in-Ok.ensures.many, guests) in
     on_ok_weaker c.tell.result.0 (λ printed.
-    prints_each drivers.items scripts.items (map said c.args.lines.items)
+    prints_each drivers.items c.args.configs.now scripts.items (map said c.args.lines.items)
     (length c.args.board.now) (g.W.Write.contents c.args.out.now)
     (g.W.Write.contents c.tell.new.out)
     (omega (arith, c.in-Ok-serve.ensures.leaves.drivers, drivers.ok, parted, as_many)) as_many
-    (subst (HaveAll drivers.items) c.as_slice.ensures.value
+    (c.requires.drivers) (subst (HaveAll drivers.items c.args.configs.now) c.as_slice.ensures.value
     c.in-Ok-serve.ensures.leaves.answers) (λ k below.
     c.in-Ok.ensures.each k (omega (arith, guests, below))) printed)
     c.tell.ensures.printed
@@ -57,14 +57,14 @@ returns-in-Ok-serve-clause-prints g c =
     ap length c.as_slice.ensures.value in
     let as_many : length scripts.items ≡ length c.args.board.now =
     omega (arith, scripts.ok, c.in-Ok.ensures.many, guests) in
-    served_print (length c.args.board.now) (map said c.args.lines.items)
+    served_print (length c.args.board.now) c.args.configs.now (map said c.args.lines.items)
     (g.W.Write.contents c.args.out.now) (g.W.Write.contents c.tell.new.out) c.tell.result.0
     c.tell.ensures.ends
-    (λ failed. prints_each drivers.items scripts.items (map said c.args.lines.items)
+    (λ failed. prints_each drivers.items c.args.configs.now scripts.items (map said c.args.lines.items)
     (length c.args.board.now) (g.W.Write.contents c.args.out.now)
     (g.W.Write.contents c.tell.new.out)
     (omega (arith, c.in-Ok-serve.ensures.leaves.drivers, drivers.ok, parted, as_many)) as_many
-    (subst (HaveAll drivers.items) c.as_slice.ensures.value
+    (c.requires.drivers) (subst (HaveAll drivers.items c.args.configs.now) c.as_slice.ensures.value
     c.in-Ok-serve.ensures.leaves.answers) (λ k below.
     c.in-Ok.ensures.each k (omega (arith, guests, below))) (c.tell.ensures.failed failed))
 

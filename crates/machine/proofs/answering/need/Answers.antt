@@ -1,15 +1,18 @@
 use Rattle.std.proofs.Common.{◌≡◌, ◌⊎◌, ◌∷◌, ◌∙◌, List, [], Some, ap, inl, inr, refl, subst, sym}
 use Rattle.std.proofs.Common.{ℕ, ◌<◌, ◌≤◌, IfSome, arith}
-use Rattle.machine.proofs.Common.{Boards, Range, Runs, Still, Voids, slice_get, stand_of}
+use Rattle.machine.proofs.Common.{AskingState, Boards, Range, Runs, Still, Voids, slice_get, stand_of}
 use Rattle.machine.proofs.Common.{standing}
 use Rattle.machine.specs.Ending.{left_by}
-use Rattle.machine.specs.Serving.{CantGoOn, HasStopped, IsGoing, NoCopy, RefusesIn, TooMuch}
+use Rattle.machine.specs.Serving.{CantGoOn, HasParts, HasStopped, IsGoing, RefusesIn, TooLong}
+use Rattle.machine.specs.Serving.{TooMuch}
 use Rattle.guest_memory.specs.Memory.{IsHeld}
 use Rattle.mmio_transport.specs.Asking.{known}
 use Rattle.machine.specs.Turn.{TurnState}
 use Rattle.machine.specs.declared.fault.MachineFault.TheVariants as fault
 use Rattle.machine.specs.declared.serving.Next.{Next}
 use Rattle.machine.specs.declared.serving.Next.TheVariants as next
+use Rattle.machine.proofs.Copied.{copied_of}
+use Rattle.machine.proofs.Popping.{some_at}
 use Rattle.machine.proofs.Runs.{still_same}
 use Rattle.machine.proofs.answering.need.Goals as goal
 
@@ -90,33 +93,40 @@ returns-then-wanted-clause-same c =
     gave.ensures.either (TooMuch c.in-Read.wanted (c.requires.asks c.in-Read.wanted c.in-Read.is)
     c.if-wanted.true) gave.ensures.refuses
 
--- there is no copy of the part, or it is longer than what was lent
-no_copy : (guest len : ℕ) (part : Range) (ps : List Range) (b : Boards) → 16384 ≤ len
+-- there is a copy of the part, so it is longer than what was lent
+too_long : (guest len : ℕ) (part : Range) (ps : List Range) (b : Boards) (d : AskingState)
+    → slice_get b.devices guest ≡ Some d → 16384 ≤ len → HasParts guest (part ∷ []) b
     → (len < part.len)
     ⊎ IfSome (slice_get b.devices guest) (λ d. ¬ IsHeld (known d) part.at part.len)
     → CantGoOn guest (part ∷ ps) b
-no_copy guest len part ps b room (inl short) =
-    NoCopy part ps refl (inl (omega (arith, room, short)))
-no_copy guest len part ps b room (inr none) = NoCopy part ps refl (inr none)
+too_long guest len part ps b d its room has (inl short) =
+    TooLong part ps refl (omega (arith, room, short))
+too_long guest len part ps b d its room has (inr none) =
+    absurd (subst (λ o. IfSome o (λ d. ¬ IsHeld (known d) part.at part.len)) its none
+    (copied_of guest (part ∷ []) b d its has).0)
 
 pub returns-then-not-copy_part-clause-runs : goal.returns-then-not-copy_part-clause-runs
 returns-then-not-copy_part-clause-runs c =
     let t = c.args.turn.now in
     let gave = c.give_up-then-not-copy_part in
     let part = c.in-Write.part in
+    let device = some_at c.args.board.now.devices c.args.guest c.requires.guest in
     given_runs c.args.guest c.args.next gave.result t gave.new.turn (part ∷ t.parts)
     c.args.board.now gave.new.board (ap (λ n. left_by (Some n) t) c.in-Write.is)
     gave.ensures.turn gave.ensures.either
-    (no_copy c.args.guest _ part t.parts c.args.board.now c.requires.room
-    (c.copy_part.ensures.none c.if-not-copy_part.true)) gave.ensures.refuses
+    (too_long c.args.guest _ part t.parts c.args.board.now device.0 device.1 c.requires.room
+    (c.requires.copied part c.in-Write.is) (c.copy_part.ensures.none c.if-not-copy_part.true))
+    gave.ensures.refuses
 
 pub returns-then-not-copy_part-clause-same : goal.returns-then-not-copy_part-clause-same
 returns-then-not-copy_part-clause-same c =
     let t = c.args.turn.now in
     let gave = c.give_up-then-not-copy_part in
     let part = c.in-Write.part in
+    let device = some_at c.args.board.now.devices c.args.guest c.requires.guest in
     given_up c.args.guest c.args.next gave.result t gave.new.turn (part ∷ t.parts)
     c.args.board.now gave.new.board (ap (λ n. left_by (Some n) t) c.in-Write.is)
     gave.ensures.turn gave.ensures.either
-    (no_copy c.args.guest _ part t.parts c.args.board.now c.requires.room
-    (c.copy_part.ensures.none c.if-not-copy_part.true)) gave.ensures.refuses
+    (too_long c.args.guest _ part t.parts c.args.board.now device.0 device.1 c.requires.room
+    (c.requires.copied part c.in-Write.is) (c.copy_part.ensures.none c.if-not-copy_part.true))
+    gave.ensures.refuses

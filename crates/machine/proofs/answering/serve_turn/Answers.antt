@@ -2,6 +2,9 @@ use Rattle.std.proofs.Common.{inl, inr, refl, sym, subst, ◌∙◌, Some}
 use Rattle.machine.proofs.Common.{Still, stand_of}
 use Rattle.machine.specs.Ending.{GoesOnFor, IsBusy, NeedsNext, NeedsTold, left_by}
 use Rattle.machine.specs.declared.fault.MachineFault.TheVariants as fault
+use Rattle.machine.specs.Serving.{HasParts}
+use Rattle.machine.proofs.Copied.{begins_copied, runs_copied}
+use Rattle.machine.proofs.Copies.{copied_first}
 use Rattle.machine.proofs.Goings.{lacks, needs_same, then_stopped}
 use Rattle.machine.proofs.Limits.{answered_rest, limit_same, limit_twice}
 use Rattle.machine.proofs.Runs.{runs_twice}
@@ -93,3 +96,17 @@ returns-clause-limit c =
     (answered_rest g _ c.args.is_there _ _ c.args.board.now c.answer.new.board
     c.answer.ensures.takes)) c.serve-next.ensures.went.limit)
     (limit_same g m d c.need.new.board.rest c.need.ensures.rest)
+
+pub need-requires-clause-copied : goal.need-requires-clause-copied
+need-requires-clause-copied c part is =
+    let g = c.args.guest in
+    let t = stand_of c.answer.new.turn in
+    let b = c.answer.new.board in
+    let v = c.serve-next.new.turn in
+    let d = c.serve-next.new.board in
+    let x = c.serve-next.result in
+    copied_first g part v.parts d
+    (subst (λ k. HasParts g (left_by (Some k) v).parts d) is
+    (runs_copied g t (left_by (Some x) v) b d c.serve-next.ensures.went.runs
+    (begins_copied g (stand_of c.args.turn.now) t c.args.board.now b c.answer.ensures.begins
+    c.requires.copied)))

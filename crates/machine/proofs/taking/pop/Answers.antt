@@ -7,10 +7,11 @@ use Rattle.board.specs.Steps.{did_answer}
 use Rattle.board.specs.declared.step.Seen.TheVariants.{Did, Nothing}
 use Rattle.board.specs.declared.step.Step.TheVariants as step
 use Rattle.board.specs.declared.step.StepFault.TheVariants as fault
-use Rattle.machine.specs.Ending.{IsTaken, Refuses}
+use Rattle.machine.specs.Ending.{IsTaken, PopRefused}
 use Rattle.machine.specs.declared.taking.Taken.{Taken}
 use Rattle.machine.proofs.Limits.{popped_waits}
-use Rattle.machine.proofs.Popping.{found_none, gives_up, noted_at, pops_by, pops_does, some_at}
+use Rattle.machine.proofs.Popping.{empty_place, found_none, gives_up, noted_at, over_by, pops_by}
+use Rattle.machine.proofs.Popping.{looked_live, popped_live, pops_does, some_at}
 use Rattle.machine.proofs.Popping.{still_by}
 use Rattle.machine.proofs.taking.pop.Goals as goal
 
@@ -37,17 +38,18 @@ returns-in-Err-Refused-clause-runs c =
     let makes = subst (λ e. PopsAsked outbox_state OutboxMakes g (Err e) c.args.board.now
     c.pop.new.self) c.in-Err-Refused.field-0-is c.in-Err-Refused.ensures.pops in
     pops_by g _ _ (Err (fault.Device c.in-Err-Refused.fault)) c.args.board.now c.pop.new.self
-    device.0 device.1 makes (ap (λ t. t.going) c.stop.ensures)
+    device.0 device.1 (empty_place g c.args.board.now c.what_always_holds.ensures c.requires.guest
+    c.requires.job) makes (ap (λ t. t.going) c.stop.ensures)
     (inr (ap (λ t. t.parts) c.stop.ensures, (λ same. absurd (let no = same in cc))))
 
 pub returns-in-Err-Refused-clause-taken : goal.returns-in-Err-Refused-clause-taken
 returns-in-Err-Refused-clause-taken c most =
     let makes = subst (λ e. PopsAsked outbox_state OutboxMakes c.args.guest (Err e)
     c.args.board.now c.pop.new.self) c.in-Err-Refused.field-0-is c.in-Err-Refused.ensures.pops in (
-      Refuses (standing [] true) (stand_of c.stop.new.self) c.args.board.now c.pop.new.self
-          (step.Pop c.args.guest) (fault.Device c.in-Err-Refused.fault)
-          (Still (standing [] true) c.args.board.now) (inl refl) makes c.of_device.ensures
-          (Still (stand_of c.stop.new.self) c.pop.new.self),
+      PopRefused c.args.board.now c.pop.new.self (fault.Device c.in-Err-Refused.fault)
+          (Still (standing [] true) c.args.board.now) makes c.of_device.ensures
+          (over_by c.args.guest c.stop.new.self c.pop.new.self (ap (λ t. t.parts) c.stop.ensures)
+          (ap (λ t. t.going) c.stop.ensures)),
       ap (λ t. t.parts) c.stop.ensures,
     )
 
@@ -57,10 +59,17 @@ returns-in-Ok-true-clause-runs c =
     let device = some_at c.args.board.now.devices g c.requires.guest in
     let makes = subst (λ did. Makes (step.Pop g) (did_answer did) c.args.board.now c.pop.new.self)
     c.in-Ok-true.field-0-test c.in-Ok-true.ensures.pops in
-    pops_by g _ _ (Ok Did) c.args.board.now c.pop.new.self device.0 device.1 makes refl
-    (inl (ap (λ t. t.parts) c.turn.view_is
-    ∙ noted_at _ device.0 _ _ device.1 c.requires.parts
-    (c.note_event.ensures.noted c.if-not-note_event.false)))
+    let empty = empty_place g c.args.board.now c.what_always_holds.ensures c.requires.guest
+    c.requires.job in
+    pops_by g _ _ (Ok Did) c.args.board.now c.pop.new.self device.0 device.1 empty makes refl
+    (inl (record {
+      seen = Did;
+      gave = refl;
+      live = popped_live g c.args.board.now c.pop.new.self device.0 device.1 empty makes;
+      all = ap (λ t. t.parts) c.turn.view_is
+          ∙ noted_at _ device.0 _ _ device.1 c.requires.parts
+          (c.note_event.ensures.noted c.if-not-note_event.false);
+    }))
 
 pub returns-in-Ok-false-clause-runs : goal.returns-in-Ok-false-clause-runs
 returns-in-Ok-false-clause-runs c =
@@ -68,7 +77,9 @@ returns-in-Ok-false-clause-runs c =
     let device = some_at c.args.board.now.devices g c.requires.guest in
     let makes = subst (λ did. Makes (step.Pop g) (did_answer did) c.args.board.now c.pop.new.self)
     c.in-Ok-false.field-0-test c.in-Ok-false.ensures.pops in
-    pops_by g _ _ (Ok Nothing) c.args.board.now c.pop.new.self device.0 device.1 makes
+    let empty = empty_place g c.args.board.now c.what_always_holds.ensures c.requires.guest
+    c.requires.job in
+    pops_by g _ _ (Ok Nothing) c.args.board.now c.pop.new.self device.0 device.1 empty makes
     c.found_none.ensures.over
     (elim c.found_none.ensures.either [
       | inl nothing ↦ inr (
@@ -76,9 +87,15 @@ returns-in-Ok-false-clause-runs c =
             let yes = did in cc)),
         (λ same. absurd (let no = same in cc)),
       )
-      | inr did ↦ inl ((c.found_none.ensures.did did).0
-          ∙ noted_at _ device.0 _ _ device.1 c.requires.parts
-          (c.note_event.ensures.noted c.if-not-note_event.false))
+      | inr did ↦ inl (record {
+        seen = Nothing;
+        gave = refl;
+        live = looked_live g c.args.board.now c.pop.new.self device.0 device.1 empty makes
+            (c.is_live-is_live.ensures (c.found_none.ensures.live did));
+        all = (c.found_none.ensures.did did).0
+            ∙ noted_at _ device.0 _ _ device.1 c.requires.parts
+            (c.note_event.ensures.noted c.if-not-note_event.false);
+      })
     ])
 
 pub returns-in-Ok-true-clause-did : goal.returns-in-Ok-true-clause-did
@@ -87,10 +104,17 @@ returns-in-Ok-true-clause-did c is =
     let device = some_at c.args.board.now.devices g c.requires.guest in
     let makes = subst (λ did. Makes (step.Pop g) (did_answer did) c.args.board.now c.pop.new.self)
     c.in-Ok-true.field-0-test c.in-Ok-true.ensures.pops in
-    inl (pops_does g _ _ (Ok Did) c.args.board.now c.pop.new.self device.0 device.1 makes refl
-    (ap (λ t. t.parts) c.turn.view_is
-    ∙ noted_at _ device.0 _ _ device.1 c.requires.parts
-    (c.note_event.ensures.noted c.if-not-note_event.false)) refl)
+    let empty = empty_place g c.args.board.now c.what_always_holds.ensures c.requires.guest
+    c.requires.job in
+    inl (pops_does g _ _ (Ok Did) c.args.board.now c.pop.new.self device.0 device.1 empty makes refl
+    (record {
+      seen = Did;
+      gave = refl;
+      live = popped_live g c.args.board.now c.pop.new.self device.0 device.1 empty makes;
+      all = ap (λ t. t.parts) c.turn.view_is
+          ∙ noted_at _ device.0 _ _ device.1 c.requires.parts
+          (c.note_event.ensures.noted c.if-not-note_event.false);
+    }) refl)
 
 pub returns-in-Ok-false-clause-taken : goal.returns-in-Ok-false-clause-taken
 returns-in-Ok-false-clause-taken c most =
@@ -117,10 +141,14 @@ returns-in-Ok-false-clause-taken c most =
                 makes = makes;
                 device = device.0;
                 its = device.1;
+                empty = empty_place g c.args.board.now c.what_always_holds.ensures
+                    c.requires.guest c.requires.job;
                 parts_are = inr (refl, (λ same. absurd (let no = same in cc)));
               };
-              behind = stand_of c.found_none.new.turn;
-              rest = Still (stand_of c.found_none.new.turn) c.pop.new.self;
+              rest = over_by g c.found_none.new.turn c.pop.new.self
+                  (c.found_none.ensures.nothing (λ did. absurd (let no = nothing in
+                  let yes = did in cc)))
+                  c.found_none.ensures.over;
             },
           ),
         ),

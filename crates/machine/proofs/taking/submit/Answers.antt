@@ -8,7 +8,7 @@ use Rattle.board.specs.Steps.{answer_by, did_answer}
 use Rattle.board.specs.declared.step.Seen.TheVariants.{Did}
 use Rattle.board.specs.declared.step.Step.TheVariants as step
 use Rattle.board.specs.declared.step.StepFault.TheVariants as fault
-use Rattle.machine.specs.Ending.{Refuses}
+use Rattle.machine.specs.Ending.{BookRefused}
 use Rattle.machine.proofs.Limits.{submitted_waits}
 use Rattle.machine.proofs.Popping.{some_at}
 use Rattle.machine.proofs.Runs.{does_step, runs_step}
@@ -71,8 +71,8 @@ pub returns-in-Err-clause-either : goal.returns-in-Err-clause-either
 returns-in-Err-clause-either c = inr (record {
   why = c.of_book.result;
   is = refl;
-  reason = λ s. Refuses s s c.args.board.now c.submit.new.self (step.Submit c.args.guest)
-      (fault.Book c.in-Err.refused) (Still s c.args.board.now) (inr refl)
+  reason = λ s. BookRefused s c.args.board.now c.submit.new.self (fault.Book c.in-Err.refused)
+      (Still s c.args.board.now)
       (subst (λ r. Makes (step.Submit c.args.guest) (answer_by fault.Book r) c.args.board.now
       c.submit.new.self) c.in-Err.is c.submit.ensures.steps) c.of_book.ensures
       (Still s c.submit.new.self);

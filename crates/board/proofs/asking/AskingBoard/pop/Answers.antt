@@ -57,7 +57,7 @@ invariant_of-self-in-Ok-Some g c =
     (lent i.devices.items at c.index_mut.result.now (omega (arith, below, long))
     c.index_mut.ensures.value) c.in-Ok-Some.ensures.gives.step c.in-Ok-Some.ensures.gives.same
     (sym (ap (λ o. pop_answer (Ok o)) c.in-Ok-Some.field-0-is))
-    (sym (ap (put i.rest.jobs at) c.in-Ok-Some.field-0-is)) in
+    (sym (ap (put i.rest.jobs at) c.in-Ok-Some.field-0-is)) c.in-Ok-Some.ensures.sees in
     subst (λ r. IsSound shows (board_of (asked (slice_set i.devices.items at c.pop.new.self) r)))
     (sym c.put_job.ensures)
     (sound_moved shows makes (board_of b) _ c.self.invariant steps.steps.moves)
@@ -79,7 +79,7 @@ returns-in-Err-clause-pops g c =
     c.index_mut.result.now c.pop.new.self c.in-Err.fault
     (c.awaits_job.ensures.0 c.if-not-awaits_job.false)
     (lent i.devices.items at c.index_mut.result.now (omega (arith, below, long))
-    c.index_mut.ensures.value) c.in-Err.ensures.gives))
+    c.index_mut.ensures.value) c.in-Err.ensures.gives c.in-Err.ensures.sees))
 
 pub returns-in-Ok-None-clause-pops : goal.returns-in-Ok-None-clause-pops
 returns-in-Ok-None-clause-pops g c =
@@ -100,7 +100,7 @@ returns-in-Ok-None-clause-pops g c =
     (lent i.devices.items at c.index_mut.result.now (omega (arith, below, long))
     c.index_mut.ensures.value) c.in-Ok-None.ensures.gives.step c.in-Ok-None.ensures.gives.same
     (sym (ap (λ o. pop_answer (Ok o)) c.in-Ok-None.field-0-is))
-    (sym (ap (put i.rest.jobs at) c.in-Ok-None.field-0-is))))
+    (sym (ap (put i.rest.jobs at) c.in-Ok-None.field-0-is)) c.in-Ok-None.ensures.sees))
 
 pub returns-in-Ok-Some-clause-pops : goal.returns-in-Ok-Some-clause-pops
 returns-in-Ok-Some-clause-pops g c =
@@ -118,26 +118,10 @@ returns-in-Ok-Some-clause-pops g c =
     (lent i.devices.items at c.index_mut.result.now (omega (arith, below, long))
     c.index_mut.ensures.value) c.in-Ok-Some.ensures.gives.step c.in-Ok-Some.ensures.gives.same
     (sym (ap (λ o. pop_answer (Ok o)) c.in-Ok-Some.field-0-is))
-    (sym (ap (put i.rest.jobs at) c.in-Ok-Some.field-0-is)) in
+    (sym (ap (put i.rest.jobs at) c.in-Ok-Some.field-0-is)) c.in-Ok-Some.ensures.sees in
     subst (λ k. StepsAsked shows makes (step.Pop k) (Ok Did) c.args.self.now
     (asked ds c.put_job.new.self)) c.from-at.ensures
     (subst (λ v. StepsAsked shows makes (step.Pop at) (Ok Did) v (asked ds c.put_job.new.self))
     c.self.view_is
     (subst (λ r. StepsAsked shows makes (step.Pop at) (Ok Did) b (asked ds r))
     (sym c.put_job.ensures) steps))
-
-pub returns-in-Ok-Some-clause-fresh : goal.returns-in-Ok-Some-clause-fresh
-returns-in-Ok-Some-clause-fresh g c =
-    let i = c.self.inside in
-    let at = c.from-at.result in
-    let below = c.if-at-len.false in
-    let long = c.len.ensures in
-    let there = lent i.devices.items at c.index_mut.result.now (omega (arith, below, long))
-    c.index_mut.ensures.value in
-    subst (λ (v : AskingBoardState _). IfSome (slice_get v.devices c.args.guest)
-    (λ d. d.held ≡ [] → ¬ (◌≡◌ {A = Result Bool PopFault} (Ok true) (Ok true)))) c.self.view_is
-    (subst (λ k. IfSome (slice_get i.devices.items k) (λ d. d.held ≡ [] → ¬ (◌≡◌ {A = Result Bool PopFault} (Ok true) (Ok true))))
-    c.from-at.ensures
-    (subst (λ o. IfSome o (λ d. d.held ≡ [] → ¬ (◌≡◌ {A = Result Bool PopFault} (Ok true) (Ok true)))) (sym there)
-    (λ none same. c.in-Ok-Some.ensures.fresh c.in-Ok-Some.job none
-    (ap Ok c.in-Ok-Some.field-0-is))))

@@ -21,8 +21,10 @@ returns-in_err-request-clause-copies g c =
     let begins : g.R.Rules.start m.bytes c.args.self.now ≡ Ok (Some c.in-Ok-Some.start) =
     subst (λ v. g.R.Rules.start m.bytes v ≡ Ok (Some c.in-Ok-Some.start)) c.self.view_is
     (rw c.in-Ok-Some.field-0-is at c.in-Ok-Some.ensures.starts) in
-    rw (p.1, p.2) (believes_asked _ _ m _ _ _ _
+    let seen : g.R.Rules.seen m c.args.self.now = subst (λ v. g.R.Rules.seen m v) c.self.view_is
+    (rw c.in-Ok-Some.field-0-is at c.in-Ok-Some.ensures.seen) in
+    rw (p.1, p.2) (believes_asked _ _ m _ _ _ _ _
     (λ ask of. OfBuffer (found_of walked)
     (next_found m.bytes ring _ _ c.in-Ok-Some.start _ (g.met.R.Rules.next_is m.bytes c.args.self.now)
     begins found) of)
-    c.in_err-request.ensures.asks)
+    c.in_err-request.ensures.asks seen)

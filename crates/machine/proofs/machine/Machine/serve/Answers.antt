@@ -1,6 +1,8 @@
 use Rattle.std.proofs.Common.{◌≡◌, ◌∙◌, ap, false, sym, subst, arith, rules}
 use Rattle.machine.proofs.Common.{slice_get_read, IsServed, MachineState, slice_set}
-use Rattle.machine.specs.Machine.{TellsOf, has_guest}
+use Rattle.machine.specs.Machine.{HasCopies, TellsOf, has_guest}
+use Rattle.machine.specs.Turn.{stand_of}
+use Rattle.machine.proofs.Copies.{copies_of, copies_set, served_copied, served_know}
 use Rattle.machine.proofs.Completing.{serves, serves_none}
 use Rattle.machine.proofs.Popping.{some_at}
 use Rattle.machine.proofs.Told.{has_all, no_device, no_setup, no_turn, tells_absent, tells_of}
@@ -104,6 +106,7 @@ returns-clause-tells c =
     let device = some_at m.board.devices g (omega (arith, below, long, same)) in
     let there = c.args.is_there in
     let given = c.args.bytes.now in
+    let room = c.if-bytes-lt-LARGEST_PART.false in
     subst (λ (x : MachineState). TellsOf g there given c.served-2.result s.new.bytes x (record m {
       board = s.new.board;
       turns = slice_set m.turns c.from-at.result s.new.turn;
@@ -115,5 +118,23 @@ returns-clause-tells c =
     (tells_of m g c.most-most.result c.index.result.now c.index_mut-turn.result.now s.new.turn there
     given s.new.board s.new.bytes s.result c.served-2.result setup its
     (has_all m g c.index.result.now c.index_mut-turn.result.now device.0 setup its device.1)
-    c.most-most.ensures c.served-2.ensures.next s.ensures.heard s.ensures.limit
+    (omega (arith, room)) c.most-most.ensures c.served-2.ensures.next s.ensures.heard s.ensures.limit
     c.served-2.ensures.sync c.served-2.ensures.waiting))
+
+pub invariant_of-self : goal.invariant_of-self
+invariant_of-self c =
+    let g = c.args.guest in
+    let turns = c.self.inside.turns.items in
+    let board = c.self.inside.board in
+    let s = c.serve_turn-next in
+    let h = s.ensures.heard in
+    let turn = c.index_mut-turn.result.now in
+    let its = slice_get_read turns c.len-else-at-len.result g turn
+    (search rules) (search rules) (search rules) in
+    subst (λ k. HasCopies (slice_set turns k s.new.turn) s.new.board) (sym c.from-at.ensures)
+    (copies_set turns g s.new.turn board s.new.board
+    (served_know g (stand_of turn) h.left board h.heard s.new.board s.result s.new.turn h.begins
+    h.runs)
+    (served_copied g (stand_of turn) h.left board h.heard s.new.board s.result s.new.turn h.begins
+    h.runs (copies_of turns board g turn c.self.invariant its))
+    c.self.invariant)

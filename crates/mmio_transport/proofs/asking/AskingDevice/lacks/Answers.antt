@@ -1,4 +1,4 @@
-use Rattle.std.proofs.Common.{◌≡◌, subst, sym, rules}
+use Rattle.std.proofs.Common.{subst}
 use Rattle.mmio_transport.specs.Asking.{AskingState, HasRoomIn}
 use Rattle.mmio_transport.proofs.Rooms.{room_in_queue}
 use Rattle.mmio_transport.proofs.asking.AskingDevice.lacks.Goals as goal

@@ -1,7 +1,7 @@
-use Rattle.std.proofs.Common.{◌≡◌, rules, length, subst, sym, ap, ◌∙◌, Option}
+use Rattle.std.proofs.Common.{rules, length, subst, sym, ap, ◌∙◌}
 use Rattle.chains.specs.Range.{AreHeld}
-use Rattle.mmio_transport.specs.Asking.{AskingState, known, HasRoom}
-use Rattle.mmio_transport.specs.Queue.{QueueState, used_held}
+use Rattle.mmio_transport.specs.Asking.{AskingState, known}
+use Rattle.mmio_transport.specs.Queue.{used_held}
 use Rattle.mmio_transport.specs.Publishing.{IsDueIn}
 use Rattle.mmio_transport.proofs.Areas.{used_held_still}
 use Rattle.mmio_transport.proofs.Rooms.{room_of_queue}
