@@ -96,6 +96,15 @@ left_told (next.Write part) s turn told =
 left_told next.Call s turn told = ap (λ x. left_of x s.at s.len turn) (sym told.0)
 left_told (next.Rest f) s turn told = ap (λ x. left_of x s.at s.len turn) (sym told.0)
 
+-- a fault is told only where the serve is over
+quiet_told : (n : Next) (s : Served) → IsTold n s → is_over s.what ≡ false → s.fault ≡ None
+quiet_told next.Again s told going = told.1
+quiet_told (next.Read ask) s told going = told.1
+quiet_told (next.Write part) s told going = told.1
+quiet_told next.Call s told going = told.1
+quiet_told (next.Rest f) s told going =
+    absurd (let over = sym (ap is_over told.0) ∙ going in cc)
+
 and_first : (a b c : Bool) → a ≡ false → (a && b && c) ≡ false
 and_first true b c is = absurd (let no = is in cc)
 and_first false b c is = refl
@@ -129,19 +138,18 @@ module _ (m : MachineState) (guest : ℕ) where
   no_more (Some w) = limit_same guest (most_of w) m.board.rest m.board.rest refl
 
   -- a guest that there isn't is refused
-  pub tells_absent : (there : Bool) (given : List ℕ) (s : Served) (bytes : List ℕ)
-      → has_guest m guest ≡ false
+  pub tells_absent : (there : Bool) (given : List ℕ) (s : Served) → has_guest m guest ≡ false
       → IsTold (next.Rest (Some fault.NoGuest)) s
       → s.sync ≡ (is_over s.what && waits_for_sync m.board.rest)
-      → s.waiting ≡ owes guest m.board.rest → TellsOf guest there given s bytes m m
-  tells_absent there given s bytes absent told sync waiting = record {
+      → s.waiting ≡ owes guest m.board.rest → TellsOf guest there given s given m m
+  tells_absent there given s absent told sync waiting = record {
     heard = m.board;
     left = stand_of (turn_of m guest);
     takes = λ has room. absurd (let no = sym absent ∙ has in cc);
     begins = GoesOn refl refl;
     runs = still_same guest (stand_of (turn_of m guest)) _ m.board
         (sym (left_told (next.Rest (Some fault.NoGuest)) s (turn_of m guest) told));
-    needs = subst (λ x. NeedsOf guest (length given) x s bytes (stand_of (turn_of m guest)) m.board
+    needs = subst (λ x. NeedsOf guest (length given) x s given (stand_of (turn_of m guest)) m.board
         m m) (sym told.0) (
           (λ none. absurd (let no = told.1 in let other = none in cc)),
           (λ f some. NoSuchGuest (let a = told.1 in let b = some in cc) absent refl),
@@ -149,24 +157,25 @@ module _ (m : MachineState) (guest : ℕ) where
     sync = sync;
     waiting = waiting;
     limit = no_more (slice_get m.setups guest);
-    absent = λ gone. (told.1, refl);
+    quiet = quiet_told (next.Rest (Some fault.NoGuest)) s told;
+    absent = λ gone. record { what = told.0; fault = told.1; bytes_are = refl; same = refl };
     short = λ has less. absurd (let no = sym absent ∙ has in cc);
   }
 
   -- there is less room than the largest part has
-  pub tells_room : (there : Bool) (given : List ℕ) (s : Served) (bytes : List ℕ)
+  pub tells_room : (there : Bool) (given : List ℕ) (s : Served)
       → has_guest m guest ≡ true → length given < 16384
       → IsTold (next.Rest (Some fault.OutOfRange)) s
       → s.sync ≡ (is_over s.what && waits_for_sync m.board.rest)
-      → s.waiting ≡ owes guest m.board.rest → TellsOf guest there given s bytes m m
-  tells_room there given s bytes has short told sync waiting = record {
+      → s.waiting ≡ owes guest m.board.rest → TellsOf guest there given s given m m
+  tells_room there given s has short told sync waiting = record {
     heard = m.board;
     left = stand_of (turn_of m guest);
     takes = λ is room. absurd (omega (arith, short, room));
     begins = GoesOn refl refl;
     runs = still_same guest (stand_of (turn_of m guest)) _ m.board
         (sym (left_told (next.Rest (Some fault.OutOfRange)) s (turn_of m guest) told));
-    needs = subst (λ x. NeedsOf guest (length given) x s bytes (stand_of (turn_of m guest)) m.board
+    needs = subst (λ x. NeedsOf guest (length given) x s given (stand_of (turn_of m guest)) m.board
         m m) (sym told.0) (
           (λ none. absurd (let no = told.1 in let other = none in cc)),
           (λ f some. NoRoom (let a = told.1 in let b = some in cc) short refl),
@@ -174,8 +183,9 @@ module _ (m : MachineState) (guest : ℕ) where
     limit = no_more (slice_get m.setups guest);
     sync = sync;
     waiting = waiting;
+    quiet = quiet_told (next.Rest (Some fault.OutOfRange)) s told;
     absent = λ gone. absurd (let no = sym has ∙ gone in cc);
-    short = λ is less. (told.1, refl);
+    short = λ is less. record { what = told.0; fault = told.1; bytes_are = refl; same = refl };
   }
 
   pub has_all : (w : Setup) (turn : TurnState) (d : AskingState) → slice_get m.setups guest ≡ Some w
@@ -226,6 +236,7 @@ module _ (m : MachineState) (guest : ℕ) where
             (subst (λ k. KeepsLimit guest k m.board.rest new.rest) limit capped);
         sync = sync;
         waiting = waiting;
+        quiet = quiet_told n s told;
         absent = λ gone. absurd (let no = sym has ∙ gone in cc);
         short = λ is less. absurd (omega (arith, room, less));
       }

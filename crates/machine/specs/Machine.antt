@@ -198,6 +198,14 @@ abbrev pub LimitIn : ℕ → Option Setup → MachineState → MachineState → 
 LimitIn guest None old new = Unit {0}
 LimitIn guest (Some s) old new = KeepsLimit guest (most_of s) old.board.rest new.board.rest
 
+-- It is refused for this, at once, and nothing changes.
+pub record IsRefusedFor (f : MachineFault) (given : List ℕ) (s : Served) (bytes : List ℕ)
+    (old new : MachineState) : Type 0 where
+  pub what : s.what ≡ what.Rest
+  pub fault : s.fault ≡ Some f
+  pub bytes_are : bytes ≡ given
+  pub same : new ≡ old
+
 -- What a serve tells, behind steps of its guest alone; of a sync where it is over. First the
 -- monitor's answer to what was asked for last is taken: what was read is what the device believes.
 pub record TellsOf (guest : ℕ) (there : Bool) (given : List ℕ) (s : Served) (bytes : List ℕ)
@@ -213,10 +221,12 @@ pub record TellsOf (guest : ℕ) (there : Bool) (given : List ℕ) (s : Served) 
   pub limit : LimitIn guest (slice_get old.setups guest) old new
   pub sync : s.sync ≡ (is_over s.what && waits_for_sync new.board.rest)
   pub waiting : s.waiting ≡ owes guest new.board.rest
-  pub absent : has_guest old guest ≡ false → (s.fault ≡ Some fault.NoGuest) × (new ≡ old)
+  -- a fault is told only where the serve is over
+  pub quiet : is_over s.what ≡ false → s.fault ≡ None
+  pub absent : has_guest old guest ≡ false → IsRefusedFor fault.NoGuest given s bytes old new
   -- there is less room than the largest part has
   pub short : has_guest old guest ≡ true → length given < 16384
-      → (s.fault ≡ Some fault.OutOfRange) × (new ≡ old)
+      → IsRefusedFor fault.OutOfRange given s bytes old new
 
 -- how it is told
 abbrev pub IsTold : Next → Served → Type 0

@@ -160,13 +160,15 @@ fn need(
     requires guest { guest < length board.old.devices }
     requires room { 16384 ≤ length out.old }
     requires asks { (wanted : Ask) → next ≡ Next.Read wanted → AsksIn guest wanted board.old }
-    requires copied { (part : Part) → next ≡ Next.Write part → HasParts guest (part ∷ []) board.old }
+    requires copied { (part : Part) → next ≡ Next.Write part
+        → HasParts guest (part ∷ []) board.old }
     ensures runs { Runs guest (left_by (Some next) turn.old) board.old
         (left_by (Some result) turn.new) board.new }
     ensures same { (result ≡ next) ⊎ ((result ≡ Next.Rest (Some MachineFault.NoMemory))
         ⊎ ((result ≡ Next.Again) × HasStopped guest (left_by (Some next) turn.old) board.old
         (stand_of turn.new) board.new)) }
-    ensures board { result ≡ next → (board.new ≡ board.old) × (stand_of turn.new ≡ stand_of turn.old) }
+    ensures board { result ≡ next
+        → (board.new ≡ board.old) × (stand_of turn.new ≡ stand_of turn.old) }
     ensures rest { board.new.rest ≡ board.old.rest }
     ensures read { (wanted : Ask) → result ≡ Next.Read wanted
         → (wanted.len ≤ 16384) × (turn.new.asked ≡ asked_of.Read wanted) }

@@ -46,7 +46,7 @@ pub struct Served {
     pub at: u64,
     /// How many bytes these are.
     pub len: u64,
-    /// Why a chain or a reply stays, where one does.
+    /// At `Rest`, where the serve is over: why a chain or a reply stays, where one does.
     pub fault: Option<MachineFault>,
     /// At `Rest`, where the serve is over: a sync is awaited, so the outbox is to be taken and
     /// written, the file synced, and that told.

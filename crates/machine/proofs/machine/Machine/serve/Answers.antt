@@ -33,7 +33,7 @@ returns-then-at-len-clause-tells c =
           (let past = w.if-at-guests.true in let long = w.guests.ensures in
           no_device m g (omega (arith, past, long, same)))
     ] in
-    tells_absent c.args.self.now g c.args.is_there c.args.bytes.now c.served.result c.args.bytes.now
+    tells_absent c.args.self.now g c.args.is_there c.args.bytes.now c.served.result
     (ap (λ (x : MachineState). has_guest x g) (sym c.self.view_is) ∙ gone)
     c.served.ensures.next c.served.ensures.sync c.served.ensures.waiting
 
@@ -60,7 +60,7 @@ returns-then-bytes-lt-LARGEST_PART-clause-tells c =
     let turn = some_at m.turns g (omega (arith, in_turns, many_turns, same)) in
     let device = some_at m.board.devices g (omega (arith, in_devices, many_devices, same)) in
     let short = c.if-bytes-lt-LARGEST_PART.true in
-    tells_room c.args.self.now g c.args.is_there c.args.bytes.now s.result c.args.bytes.now
+    tells_room c.args.self.now g c.args.is_there c.args.bytes.now s.result
     (ap (λ (x : MachineState). has_guest x g) (sym c.self.view_is)
     ∙ has_all m g setup.0 turn.0 device.0 setup.1 turn.1 device.1) (omega (arith, short))
     s.ensures.next s.ensures.sync s.ensures.waiting
