@@ -7,14 +7,8 @@ use Rattle.guest_memory.specs.declared.ask.Ask.{Ask}
 use Rattle.chains.proofs.Common.{RingFault, NoMemory, Missing, Refused, ChainFault, Descriptors}
 use Rattle.chains.proofs.Common.{Found, Range, walk}
 use Rattle.chains.specs.Building.{AsksOnly, BelievesCopies, StandsOn}
-use Rattle.chains.specs.Needs.{AsksNothing, IsOfRanges, LiesIn}
+use Rattle.chains.specs.Needs.{IsOfRanges, LiesIn}
 use Rattle.chains.specs.Start.{found_from, some_found}
-
-pub nothing_asked : (X Y : Type 0) (m : Known) (P : Ask → Type 0) (e : RingFault)
-    → AsksNothing {X = X} (Err e) → AsksOnly {X = Y} m P (Err e)
-nothing_asked X Y m P NoMemory none = record { absent = tt; few = tt; needed = tt }
-nothing_asked X Y m P (Missing ask) none = absurd none
-nothing_asked X Y m P (Refused f) none = record { absent = tt; few = tt; needed = tt }
 
 pub asked_as : (X Y : Type 0) (m : Known) (P Q : Ask → Type 0) (e : RingFault)
     → ((ask : Ask) → P ask → Q ask) → AsksOnly {X = X} m P (Err e) → AsksOnly {X = Y} m Q (Err e)

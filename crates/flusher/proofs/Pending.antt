@@ -4,18 +4,15 @@ use Rattle.std.proofs.Common.{ap, sym, ◌∙◌, subst}
 use Rattle.flusher.proofs.Common.{if◌then◌else◌, Group, Intent, Phase, Given, Written, Ready}
 use Rattle.flusher.proofs.Common.{Opening, Open, Applying, Applied, Closing, Slot, Guest, Turn}
 use Rattle.flusher.proofs.Common.{First, Second, Neither, is_opening, is_settled, is_empty}
-use Rattle.flusher.proofs.Common.{intent_of, slot_writes, pending_of, opening_in, in_phase}
-use Rattle.flusher.proofs.Common.{after_sync, has_room, behind_writes, or_else, mark_of, marked}
+use Rattle.flusher.proofs.Common.{pending_of, opening_in, in_phase}
+use Rattle.flusher.proofs.Common.{after_sync, or_else, mark_of, marked}
 use Rattle.flusher.proofs.Common.{moved_up, moved_in, turn_of, with_slots, given_at}
-use Rattle.flusher.proofs.Common.{guest_after_write, guest_after_sync, with_intent, Besides}
+use Rattle.flusher.proofs.Common.{Besides}
 use Rattle.flusher.proofs.Common.{PhaseBesides}
 use Rattle.flusher.specs.Phase.{synced}
 use Rattle.flusher.specs.Pair.{listed, pending_intents, opening_of}
 use Rattle.flusher.specs.Laws.{PendingStays, PendingGrows, PendingSettles, Settles}
-use Rattle.flusher.proofs.Turns.{pending_written, intent_written, turn_behind, first_writes_besides}
-use Rattle.flusher.proofs.Turns.{behind_writes_besides}
-use Rattle.flusher.proofs.Syncs.{synced_order}
-use Rattle.flusher.proofs.Writer.{synced_intent}
+use Rattle.flusher.proofs.Turns.{pending_written}
 
 -- 1. A write
 
@@ -173,50 +170,3 @@ pending_settles x b = (
       (slots_settle x.slot x.behind b),
   moved_up_mark x (marked x) (after_sync x.slot) (after_sync x.behind),
 )
-
--- 4. What holds of each intent in a slot, and how far the slot behind is
-
-module _ (P : Option Intent → Type 0) (x : Guest) where
-  abbrev Keeps : Guest → Type 0
-  Keeps y = P (intent_of y.slot) × P (intent_of y.behind) × Besides y.slot y.behind
-
-  turn_keeps : (t : Turn) → turn_of x ≡ t → Keeps x → Keeps (moved_in t x)
-  turn_keeps First is k = (
-    subst P (sym (intent_written x.slot)) k.0,
-    k.1,
-    first_writes_besides x.slot x.behind k.2,
-  )
-  turn_keeps Second is k = (
-    k.0,
-    subst P (sym (intent_written x.behind)) k.1,
-    behind_writes_besides x.slot x.behind k.2
-        (turn_behind (slot_writes x.slot) (behind_writes x.slot x.behind) is),
-  )
-  turn_keeps Neither is k = k
-
-  pub write_keeps : Keeps x → Keeps (guest_after_write x)
-  write_keeps k = turn_keeps (turn_of x) refl k
-
-  moved_up_keeps : (n : ℕ) (slot behind : Option Slot) → P None → P (intent_of slot)
-      → P (intent_of behind) → P (intent_of (moved_up x n slot behind).slot)
-      × P (intent_of (moved_up x n slot behind).behind)
-  moved_up_keeps n (Some f) behind none one two = (one, two)
-  moved_up_keeps n None (Some b) none one two = (two, none)
-  moved_up_keeps n None None none one two = (none, none)
-
-  pub sync_keeps : P None → Keeps x → Keeps (guest_after_sync x)
-  sync_keeps none k =
-      let both = moved_up_keeps (marked x) (after_sync x.slot) (after_sync x.behind) none
-      (synced_intent P x.slot none k.0) (synced_intent P x.behind none k.1) in
-      (both.0, both.1, synced_order x (marked x) x.slot x.behind k.2)
-
-  given_keeps : (i : Intent) (slot behind : Option Slot)
-      → (if x.paired then is_empty behind else is_empty slot) ≡ true → P (Some i)
-      → Keeps (with_slots x slot behind) → Keeps (given_at (with_slots x slot behind) i slot)
-  given_keeps i None None room new k = (new, k.1, tt)
-  given_keeps i None (Some s) room new k = absurd k.2
-  given_keeps i (Some f) None room new k = (k.0, new, tt)
-  given_keeps i (Some f) (Some s) room new k = absurd (full x.paired room)
-
-  pub give_keeps : (i : Intent) → has_room x ≡ true → P (Some i) → Keeps x → Keeps (with_intent x i)
-  give_keeps i room new k = given_keeps i x.slot x.behind room new k

@@ -191,18 +191,3 @@ module _ {D : Type 0} (state : D → DiskState) (makes : D → DiskCall → D �
   pub round_front : Round makes (planned old) od old result nd new broken
       → Within state makes AtFront od nd
   round_front = front_by_plan (planned old)
-
--- No call makes a disk faithful, or takes it away.
-counts_faithful : (a b : DiskState) (call : DiskCall) → Effect a call b → b.faithful ≡ a.faithful
-counts_faithful a b call e = grind arith
-
-pub round_faithful : {D : Type 0} (shows : D → DiskState) (makes : D → DiskCall → D → Type 0)
-    → ((a b : D) (call : DiskCall) → makes a call b → Effect (shows a) call (shows b))
-    → (p : Plan) (od : D) (old : List Guest) (result : Result Progress StoreFault) (nd : D)
-    (new : List Guest) (broken : Bool) → Round makes p od old result nd new broken
-    → (shows nd).faithful ≡ (shows od).faithful
-round_faithful shows makes effect (WriteOf g) od old result nd new broken r = grind arith
-round_faithful shows makes effect SyncAll od old result nd new broken r =
-    counts_faithful (shows od) (shows nd) (Sync r.ok) (effect od nd (Sync r.ok) r.synced.call)
-round_faithful shows makes effect Nothing od old result nd new broken r =
-    ap (λ d. (shows d).faithful) r.1

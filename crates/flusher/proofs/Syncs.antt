@@ -1,13 +1,13 @@
 -- A sync of a guest's two slots, each in its phase.
 use Rattle.std.proofs.Common.{◌≡◌, ◌≢◌, ◌⊎◌, inl, inr, Bool, true, false, Option, Some, None, ℕ}
-use Rattle.std.proofs.Common.{◌+◌, length, refl, ap, sym, ◌∙◌, subst, arith}
+use Rattle.std.proofs.Common.{◌+◌, refl, ap, sym, ◌∙◌, subst, arith}
 use Rattle.flusher.proofs.Common.{if◌then◌else◌, Content, Side, A, Region, SlotRegion, slot_region}
 use Rattle.flusher.proofs.Common.{other_side, Group, Intent, Part, HoldsHome, Phase, Given, Written}
 use Rattle.flusher.proofs.Common.{Ready, Opening, Open, Applying, Applied, Closing, Slot, Guest}
 use Rattle.flusher.proofs.Common.{skipped, is_opening, is_settled, after_sync, in_phase, pending_of}
-use Rattle.flusher.proofs.Common.{opening_in, entries_in, or_else, with_slots, moved_up}
+use Rattle.flusher.proofs.Common.{opening_in, or_else, with_slots, moved_up}
 use Rattle.flusher.proofs.Common.{guest_after_sync, side_of, side_behind, IsShut, Row, Seen, Behind}
-use Rattle.flusher.proofs.Common.{BehindRow, LeadsTo, LeadsBy, PhaseBesides, Besides, Follows}
+use Rattle.flusher.proofs.Common.{BehindRow, LeadsTo, LeadsBy, PhaseBesides, Follows}
 use Rattle.flusher.proofs.Common.{IsMarked, PairRow, guest_seen, settled, settled_with}
 use Rattle.flusher.proofs.Common.{sequence_of_part, guest_settled}
 use Rattle.flusher.specs.Phase.{synced, is_closing}
@@ -67,20 +67,6 @@ follows_first : (n : ℕ) (phase : Phase) (i : Intent) (o : Option Group)
     → Follows (mark_after (or_else (if is_opening phase then Some i.group else None) o) n)
     (pending_of (in_phase i (synced phase i.group)))
 follows_first n phase i o none f = grind arith
-
--- and so does the one behind it
-abbrev after_pending : ℕ → Phase → Intent → Option Group → ℕ
-after_pending n phase i o = mark_after (or_else (if is_opening phase then Some i.group else None) o)
-    n + length (entries_in (pending_of (in_phase i (synced phase i.group))))
-
-module _ (x : Guest) (n : ℕ) where
-  abbrev InOrder : Option Slot → Option Slot → Type 0
-  InOrder slot behind = Besides (moved_up x n slot behind).slot (moved_up x n slot behind).behind
-
-  -- the slot behind is as far as the first one lets it be
-  pub synced_order : (slot behind : Option Slot) → Besides slot behind
-      → InOrder (after_sync slot) (after_sync behind)
-  synced_order slot behind b = grind arith
 
 -- 3. The rows
 

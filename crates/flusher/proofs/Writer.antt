@@ -2,8 +2,8 @@
 use Rattle.std.proofs.Common.{◌≡◌, Bool, IsTrue, Option, Some, None, ℕ, arith, List, get_or, refl}
 use Rattle.std.proofs.Common.{ap, sym, ◌∙◌, subst, ⊎_elim}
 use Rattle.flusher.proofs.Common.{slice_get, slice_set, position, position-Some, slice_get-get_or}
-use Rattle.flusher.proofs.Common.{DiskCall, Write, Region, SlotRegion, Entry, Group, Intent, Slot}
-use Rattle.flusher.proofs.Common.{Guest, last_of, open_write, Turn, spelled, intent_of, after_sync}
+use Rattle.flusher.proofs.Common.{DiskCall, Write, Region, SlotRegion, Entry, Group}
+use Rattle.flusher.proofs.Common.{Guest, last_of, open_write, Turn, spelled}
 use Rattle.flusher.proofs.Common.{turn_of, moved_in, guest_write, guest_after_write}
 use Rattle.flusher.proofs.Common.{guest_after_sync, guest_has_write, AllFit, GuestFits}
 use Rattle.std.specs.Prelude.{MatchOption}
@@ -22,10 +22,6 @@ of_home makes od nd ok region side i None at bytes none there is call =
     subst (λ (n : ℕ). makes od (Write n (home_bytes i.key (last_of i)) ok) nd) there
     (subst (λ (b : List ℕ). makes od (Write at b ok) nd) is call)
 of_home makes od nd ok region side i (Some e) at bytes none there is call = absurd (cc)
-
-pub synced_intent : (P : Option Intent → Type 0) (slot : Option Slot) → P None → P (intent_of slot)
-    → P (intent_of (after_sync slot))
-synced_intent P slot none p = grind arith
 
 module _ (len g : ℕ) (x : Guest) (f : GuestFits len g x) where
   synced_fits : GuestFits len g (guest_after_sync x)

@@ -5,7 +5,7 @@ use Rattle.std.proofs.Common.{◌∙◌, subst, arith}
 use Rattle.recovery.proofs.Common.{slice_index, ◌==◌, cases_lt, cases_eq, nat_tests, get_or_past}
 use Rattle.recovery.proofs.Common.{Partition, sequence_of, Content, bytes_at, content_of, Region}
 use Rattle.recovery.proofs.Common.{region_at, slot_region, other_side, image_length, lies_inside, A}
-use Rattle.recovery.proofs.Common.{B, Agree, GroupFits, last_of, Part, HoldsHome, HasPayload}
+use Rattle.recovery.proofs.Common.{B, Agree, last_of, Part, HoldsHome, HasPayload}
 use Rattle.recovery.proofs.Common.{ByHome, ByPayload, ByNeither, ByOne, ByBoth, StandsIn, is_paired}
 use Rattle.recovery.proofs.Common.{redo, blocks_of, get_bytes, payload_short, same_content}
 use Rattle.recovery.proofs.Common.{blocks_below, blocks_beyond, IsBegun, HasPart, IsFound, GatesAre}
@@ -298,42 +298,6 @@ found_one cs g c blocks_from blocks redone_blocks key i told_counter capacity he
       version = version;
     }))
 
-pub begun_one : (cs : List ℕ) (g : ℕ) (redone_blocks key : List ℕ) (i : Intent)
-    (told_counter capacity : ℕ) (here : Region) (p : Partition) (paired : Bool) (side : Side)
-    → i.guest ≡ g → GroupFits (region_at cs g).size i.group → (paired ≡ false → side ≡ A)
-    → key ≡ i.group.key → told_counter ≡ last_of i.group → here ≡ region_at cs g
-    → capacity ≡ slice_index cs g
-    → p ≡ record {
-      capacity = capacity;
-      key = Some key;
-      counter = told_counter;
-      blocks =
-          redone_blocks;
-    }
-    → IsBegun cs g (redoing paired here side i) p
-begun_one cs g redone_blocks key i told_counter capacity here p paired side own fits single same_key
-    same_counter same units q = record {
-      region = same;
-      capacity = ap (λ v. v.capacity) q ∙ units;
-      mark = ap (λ m. m + 1) (sym same_counter) ∙ sym (ap (λ v. sequence_of v.key v.counter) q);
-      small = (let one = fits.one in let counters = fits.counters in omega (arith, one, counters));
-      slot = refl;
-      side = λ empty. absurd (cc);
-      behind = tt;
-      number = own;
-      number_behind = tt;
-      fits = subst (λ (v : Region). GroupFits v.size i.group) (sym same) fits;
-      fits_behind = tt;
-      key = ap (λ v. v.key) q ∙ ap (λ (l : List ℕ). Some l) same_key;
-      key_behind = tt;
-      ordered = record {
-        chained = tt;
-        besides = tt;
-        single = λ un.
-            record { alone = refl; side = single un };
-      };
-    }
-
 -- 4. Both gates are open
 
 -- what the two payloads are to each other
@@ -456,32 +420,6 @@ found_two cs g c blocks_from blocks once twice key i j told_counter capacity her
       };
       version = version;
     }))
-
-pub begun_two : (cs : List ℕ) (g : ℕ) (blocks key : List ℕ) (i j : Intent)
-    (told_counter capacity : ℕ) (here : Region) (p : Partition) (side : Side)
-    → i.guest ≡ g → j.guest ≡ g → GroupFits (region_at cs g).size i.group
-    → GroupFits (region_at cs g).size j.group → NextTo i.group j.group
-    → key ≡ j.group.key → told_counter ≡ last_of j.group → here ≡ region_at cs g
-    → capacity ≡ slice_index cs g
-    → p ≡ record { capacity = capacity; key = Some key; counter = told_counter; blocks = blocks }
-    → IsBegun cs g (redoing_two here side i j) p
-begun_two cs g blocks key i j told_counter capacity here p side own also fits then next same_key
-    same_counter same units q = record {
-      region = same;
-      capacity = ap (λ v. v.capacity) q ∙ units;
-      mark = ap (λ m. m + 1) (sym same_counter) ∙ sym (ap (λ v. sequence_of v.key v.counter) q);
-      small = (let one = then.one in let counters = then.counters in omega (arith, one, counters));
-      slot = refl;
-      side = λ empty. absurd (cc);
-      behind = refl;
-      number = own;
-      number_behind = also;
-      fits = subst (λ (v : Region). GroupFits v.size i.group) (sym same) fits;
-      fits_behind = subst (λ (v : Region). GroupFits v.size j.group) (sym same) then;
-      key = ap (λ v. v.key) q ∙ ap (λ (l : List ℕ). Some l) (same_key ∙ next.1);
-      key_behind = ap (λ v. v.key) q ∙ ap (λ (l : List ℕ). Some l) same_key;
-      ordered = record { chained = next; besides = refl; single = λ un. absurd (cc) };
-    }
 
 -- 5. A gate
 
