@@ -28,20 +28,20 @@ completes told m b' new is hears devices = record {
   setups = refl;
 }
 
-pub serves : (guest : ℕ) (m : MachineState) (turn turn' : TurnState) (left t : Stand)
+pub serves : (guest most : ℕ) (m : MachineState) (turn turn' : TurnState) (left t : Stand)
     (heard new : Boards) → slice_get m.turns guest ≡ Some turn
-    → Begins guest (stand_of turn) m.board left heard → Runs guest left heard t new
+    → Begins guest (stand_of turn) m.board left heard → Runs guest most left heard t new
     → IsServed guest m (record m { board = new; turns = slice_set m.turns guest turn' })
-serves guest m turn turn' left t heard new its begins runs = record {
+serves guest most m turn turn' left t heard new its begins runs = record {
   moves = moves_twice outbox_state OutboxMakes (board_of m.board) (board_of heard) (board_of new)
       (begins_moves guest (stand_of turn) left m.board heard begins)
-      (runs_moves guest left t heard new runs);
+      (runs_moves guest most left t heard new runs);
   whole = whole_twice m.board.rest heard.rest new.rest
       (begins_whole guest (stand_of turn) left m.board heard begins)
-      (runs_whole guest left t heard new runs);
+      (runs_whole guest most left t heard new runs);
   others = stays_twice outbox_state OutboxMakes guest (board_of m.board) (board_of heard)
       (board_of new) (begins_stay guest (stand_of turn) left m.board heard begins)
-      (others_stay guest left t heard new runs);
+      (others_stay guest most left t heard new runs);
   turns = λ k other. get_set_other m.turns guest k turn' other;
   setups = refl;
 }
@@ -61,9 +61,10 @@ serves_none guest m = record {
 }
 
 -- a step more of the disk's work
-pub goes_more : (guest : ℕ) (a b c : Boards)
+pub goes_more : (guest most : ℕ) (a b c : Boards)
     → Moves outbox_state OutboxMakes (board_of a) (board_of b)
-    → (s : Stand) → Runs guest s b s c → Moves outbox_state OutboxMakes (board_of a) (board_of c)
-goes_more guest a b c moves s runs =
+    → (s : Stand) → Runs guest most s b s c
+    → Moves outbox_state OutboxMakes (board_of a) (board_of c)
+goes_more guest most a b c moves s runs =
     moves_twice outbox_state OutboxMakes (board_of a) (board_of b) (board_of c) moves
-    (runs_moves guest s s b c runs)
+    (runs_moves guest most s s b c runs)

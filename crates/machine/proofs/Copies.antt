@@ -17,7 +17,8 @@ use Rattle.machine.proofs.Copied.{copied_set, none_copied, runs_copied, runs_kno
 
 pub copies_of : (turns : List TurnState) (b : Boards) (k : ℕ) (turn : TurnState) → HasCopies turns b
     → slice_get turns k ≡ Some turn → HasParts k turn.parts b
-copies_of turns b k turn has its = subst (λ o. IfSome o (λ t. HasParts k t.parts b)) its (has.each k)
+copies_of turns b k turn has its = subst (λ o. IfSome o (λ t. HasParts k t.parts b)) its
+    (has.each k)
 
 -- what the devices know is as it was
 pub copies_same : (turns : List TurnState) (a b : Boards)
@@ -91,17 +92,17 @@ copied_left guest (next.Write part) turn b has =
 copied_left guest next.Call turn b has = has
 copied_left guest (next.Rest f) turn b has = has
 
-module _ (guest : ℕ) (s left : Stand) (old heard new : Boards) (n : Next) (turn : TurnState)
+module _ (guest most : ℕ) (s left : Stand) (old heard new : Boards) (n : Next) (turn : TurnState)
     (begins : Begins guest s old left heard)
-    (runs : Runs guest left heard (left_by (Some n) turn) new) where
+    (runs : Runs guest most left heard (left_by (Some n) turn) new) where
   pub served_copied : HasParts guest s.parts old → HasParts guest turn.parts new
   served_copied has =
       copied_left guest n turn new
-      (runs_copied guest left (left_by (Some n) turn) heard new runs
+      (runs_copied guest most left (left_by (Some n) turn) heard new runs
       (begins_copied guest s left old heard begins has))
 
   pub served_know : (k : ℕ) → k ≢ guest
       → slice_get (map knowledge new.devices) k ≡ slice_get (map knowledge old.devices) k
   served_know k other =
-      runs_know guest k other left (left_by (Some n) turn) heard new runs
+      runs_know guest k other most left (left_by (Some n) turn) heard new runs
       ∙ begins_know guest k other s left old heard begins

@@ -19,12 +19,11 @@ use Rattle.machine.specs.Ending.{BookRefused, Lacks, Looks, NeedsNext, NotifiesN
 use Rattle.machine.specs.Ending.{RestsAt, SawAll}
 use Rattle.machine.specs.Ending.{Went, left_by}
 use Rattle.machine.specs.declared.fault.MachineFault.TheVariants as fault
-use Rattle.machine.specs.Serving.{HasStopped, KeepsLimit, KeepsWaiting, SameDevices}
+use Rattle.machine.specs.Serving.{HasStopped, KeepsWaiting, SameDevices}
 use Rattle.machine.specs.Serving.{standing}
 use Rattle.machine.specs.Turn.{Stand, TurnState, stand_of}
 use Rattle.machine.specs.declared.serving.Next.{Next}
 use Rattle.machine.specs.declared.serving.Next.TheVariants as next
-use Rattle.machine.proofs.Limits.{limit_twice}
 use Rattle.machine.proofs.Runs.{runs_twice, then_does, then_many}
 
 -- 1. Whether the driver is to be notified
@@ -81,13 +80,13 @@ module _ (a a' : AskingState) where
 
 -- 2. Moves
 
-pub then_stopped : (guest : ℕ) (s t u : Stand) (a b c : Boards) → Runs guest s a t b
-    → HasStopped guest t b u c → HasStopped guest s a u c
-then_stopped guest s t u a b c first stopped = record {
+pub then_stopped : (guest most : ℕ) (s t u : Stand) (a b c : Boards) → Runs guest most s a t b
+    → HasStopped guest most t b u c → HasStopped guest most s a u c
+then_stopped guest most s t u a b c first stopped = record {
   before = stopped.before;
   parts = stopped.parts;
   going = stopped.going;
-  runs = runs_twice guest s t (standing stopped.parts stopped.going) a b stopped.before first
+  runs = runs_twice guest most s t (standing stopped.parts stopped.going) a b stopped.before first
       stopped.runs;
   went_on = stopped.went_on;
   why = stopped.why;
@@ -96,49 +95,51 @@ then_stopped guest s t u a b c first stopped = record {
 }
 
 -- a reason is one, too, with some steps more before it or behind it
-module _ (guest : ℕ) where
-  then_looks : (s t v : Stand) (a b d : Boards) → Runs guest s a t b → Looks guest t b v d
-      → Looks guest s a v d
+module _ (guest most : ℕ) where
+  then_looks : (s t v : Stand) (a b d : Boards) → Runs guest most s a t b → Looks guest most t b v d
+      → Looks guest most s a v d
   then_looks s t v a b d first looks = record {
     before = looks.before;
-    first = runs_twice guest s t (standing [] true) a b looks.before first looks.first;
+    first = runs_twice guest most s t (standing [] true) a b looks.before first looks.first;
     parts = looks.parts;
     after = looks.after;
     pops = looks.pops;
     rest = looks.rest;
   }
 
-  looks_then : (s t v : Stand) (a b d : Boards) → Looks guest s a t b → Runs guest t b v d
-      → Looks guest s a v d
+  looks_then : (s t v : Stand) (a b d : Boards) → Looks guest most s a t b → Runs guest most t b v d
+      → Looks guest most s a v d
   looks_then s t v a b d looks more = record {
     before = looks.before;
     first = looks.first;
     parts = looks.parts;
     after = looks.after;
     pops = looks.pops;
-    rest = runs_twice guest (standing looks.parts false) t v looks.after b d looks.rest more;
+    rest = runs_twice guest most (standing looks.parts false) t v looks.after b d looks.rest more;
   }
 
-module _ (guest : ℕ) (f : MachineFault) where
-  pub then_reason : (s t v : Stand) (a b d : Boards) → Runs guest s a t b
-      → HasReason guest f t b v d → HasReason guest f s a v d
+module _ (guest most : ℕ) (f : MachineFault) where
+  pub then_reason : (s t v : Stand) (a b d : Boards) → Runs guest most s a t b
+      → HasReason guest most f t b v d → HasReason guest most f s a v d
   then_reason s t v a b d first (PopRefused x y e before makes is after) =
-      PopRefused x y e (runs_twice guest s t (standing [] true) a b x first before) makes is after
+      PopRefused x y e (runs_twice guest most s t
+      (standing [] true) a b x first before) makes is after
   then_reason s t v a b d first (BookRefused w x y e before makes is after) =
-      BookRefused w x y e (runs_twice guest s t w a b x first before) makes is after
+      BookRefused w x y e (runs_twice guest most s t w a b x first before) makes is after
   then_reason s t v a b d first (Lacks is) = Lacks is
 
-  pub reason_then : (s t v : Stand) (a b d : Boards) → HasReason guest f s a t b
-      → Runs guest t b v d → HasReason guest f s a v d
+  pub reason_then : (s t v : Stand) (a b d : Boards) → HasReason guest most f s a t b
+      → Runs guest most t b v d → HasReason guest most f s a v d
   reason_then s t v a b d (PopRefused x y e before makes is after) more =
       PopRefused x y e before makes is
-      (runs_twice guest (standing [] false) t v y b d after more)
+      (runs_twice guest most (standing [] false) t v y b d after more)
   reason_then s t v a b d (BookRefused w x y e before makes is after) more =
-      BookRefused w x y e before makes is (runs_twice guest w t v y b d after more)
+      BookRefused w x y e before makes is (runs_twice guest most w t v y b d after more)
   reason_then s t v a b d (Lacks is) more = Lacks is
 
-  pub ends_after : (s t : Stand) (a b : Boards) (u : TurnState) (c : Boards) → Runs guest s a t b
-      → EndsFor guest f t b u c → EndsFor guest f s a u c
+  pub ends_after : (s t : Stand) (a b : Boards) (u : TurnState) (c : Boards)
+      → Runs guest most s a t b
+      → EndsFor guest most f t b u c → EndsFor guest most f s a u c
   ends_after s t a b u c runs ends = record {
     reason = then_reason s t (stand_of u) a b c runs ends.reason;
     settled = ends.settled;
@@ -146,26 +147,26 @@ module _ (guest : ℕ) (f : MachineFault) where
 
   -- memory was refused
   pub lacks : (s : Stand) (a : Boards) (u : TurnState) (c : Boards) → f ≡ fault.NoMemory
-      → EndsFor guest f s a u c
+      → EndsFor guest most f s a u c
   lacks s a u c is = record { reason = Lacks is; settled = λ other. absurd (other is) }
 
 module _ (guest most : ℕ) where
   -- with some steps more before them
   pub busy_after : (s t : Stand) (a b c : Boards) (u : TurnState) (n : Option Next)
-      → Runs guest s a t b → GoesOnFor guest t b u c n → GoesOnFor guest s a u c n
-  busy_after s t a b c u None runs does = then_does guest s t (stand_of u) a b c runs does
+      → Runs guest most s a t b → GoesOnFor guest most t b u c n → GoesOnFor guest most s a u c n
+  busy_after s t a b c u None runs does = then_does guest most s t (stand_of u) a b c runs does
   busy_after s t a b c u (Some next.Again) runs (inl does) =
-      inl (then_many guest 16 s t (stand_of u) a b c runs does)
+      inl (then_many guest most 16 s t (stand_of u) a b c runs does)
   busy_after s t a b c u (Some next.Again) runs (inr (inl waits)) = inr (inl waits)
   busy_after s t a b c u (Some next.Again) runs (inr (inr stopped)) =
-      inr (inr (then_stopped guest s t (stand_of u) a b c runs stopped))
+      inr (inr (then_stopped guest most s t (stand_of u) a b c runs stopped))
   busy_after s t a b c u (Some (next.Read ask)) runs busy = tt
   busy_after s t a b c u (Some (next.Write part)) runs busy = tt
   busy_after s t a b c u (Some next.Call) runs busy = tt
   busy_after s t a b c u (Some (next.Rest f)) runs busy = tt
 
   pub needs_after : (s t : Stand) (a b : Boards) (u : TurnState) (c : Boards) (n : Option Next)
-      → Runs guest s a t b → NeedsNext guest most t b u c n → NeedsNext guest most s a u c n
+      → Runs guest most s a t b → NeedsNext guest most t b u c n → NeedsNext guest most s a u c n
   needs_after s t a b u c None runs needs = tt
   needs_after s t a b u c (Some next.Again) runs needs = tt
   needs_after s t a b u c (Some (next.Read ask)) runs needs = needs
@@ -176,14 +177,15 @@ module _ (guest most : ℕ) where
       jobs = needs.0.jobs;
       taken = elim needs.0.taken [
         | inl found ↦ inl
-            (found.0, then_looks guest s t (stand_of u) a b c runs found.1)
+            (found.0, then_looks guest most s t (stand_of u) a b c runs found.1)
         | inr full ↦ inr full
       ];
       settled = needs.0.settled;
     },
     needs.1,
   )
-  needs_after s t a b u c (Some (next.Rest (Some f))) runs needs = ends_after guest f s t a b u c
+  needs_after s t a b u c (Some (next.Rest (Some f))) runs needs = ends_after guest most f s t a b u
+      c
       runs needs
 
   -- where what is left to be copied out is as it was
@@ -199,13 +201,13 @@ module _ (guest most : ℕ) where
     ap (λ v. v.parts) same ∙ needs.1,
   )
   needs_same s a u w c (Some (next.Rest (Some f))) same needs = record {
-    reason = subst (λ v. HasReason guest f s a v c) (sym same) needs.reason;
+    reason = subst (λ v. HasReason guest most f s a v c) (sym same) needs.reason;
     settled = λ other. (let is = needs.settled other in (is.0, ap (λ v. v.parts) same ∙ is.1));
   }
 
   -- and what became of the next chain
   pub taken_after : (s t : Stand) (a b : Boards) (u : TurnState) (c : Boards) (k : Taken)
-      → Runs guest s a t b → IsTaken guest most t b u c k → IsTaken guest most s a u c k
+      → Runs guest most s a t b → IsTaken guest most t b u c k → IsTaken guest most s a u c k
   taken_after s t a b u c (taken.Asks ask) runs is = is
   taken_after s t a b u c taken.Did runs is = tt
   taken_after s t a b u c taken.Nothing runs is = (
@@ -213,53 +215,49 @@ module _ (guest most : ℕ) where
       is.0.0,
       elim is.0.1 [
         | inl found ↦ inl
-            (found.0, then_looks guest s t (stand_of u) a b c runs found.1)
+            (found.0, then_looks guest most s t (stand_of u) a b c runs found.1)
         | inr full ↦ inr full
       ],
     ),
     is.1,
   )
   taken_after s t a b u c (taken.Refused f) runs is =
-      (then_reason guest f s t (stand_of u) a b c runs is.0, is.1)
+      (then_reason guest most f s t (stand_of u) a b c runs is.0, is.1)
 
   -- the serve began before these steps, or with them
   pub went_on : (s : Stand) (z : Boards) (t0 t1 t2 : TurnState) (a b c : Boards) (n : Option Next)
-      → Runs guest (stand_of t0) a (stand_of t1) b → length b.devices ≡ length a.devices
-      → t1.asked ≡ t0.asked → KeepsLimit guest most a.rest b.rest
-      → Went guest most s z t1 t2 b c n → Went guest most s z t0 t2 a c n
-  went_on s z t0 t1 t2 a b c n runs count asked limit went = record {
-    runs = runs_twice guest (stand_of t0) (stand_of t1) (left_by n t2) a b c runs went.runs;
+      → Runs guest most (stand_of t0) a (stand_of t1) b → length b.devices ≡ length a.devices
+      → t1.asked ≡ t0.asked → Went guest most s z t1 t2 b c n → Went guest most s z t0 t2 a c n
+  went_on s z t0 t1 t2 a b c n runs count asked went = record {
+    runs = runs_twice guest most (stand_of t0) (stand_of t1) (left_by n t2) a b c runs went.runs;
     needs = went.needs;
     busy = busy_after (stand_of t0) (stand_of t1) a b c t2 n runs went.busy;
-    limit = limit_twice guest most a.rest b.rest c.rest limit went.limit;
     count = went.count ∙ count;
     asked = went.asked ∙ asked;
   }
 
   pub went_after : (t0 t1 t2 : TurnState) (a b c : Boards) (n : Option Next)
-      → Runs guest (stand_of t0) a (stand_of t1) b → length b.devices ≡ length a.devices
-      → t1.asked ≡ t0.asked → KeepsLimit guest most a.rest b.rest
-      → Went guest most (stand_of t1) b t1 t2 b c n → Went guest most (stand_of t0) a t0 t2 a c n
-  went_after t0 t1 t2 a b c n runs count asked limit went =
-      went_on (stand_of t0) a t0 t1 t2 a b c n runs count asked limit (record {
+      → Runs guest most (stand_of t0) a (stand_of t1) b → length b.devices ≡ length a.devices
+      → t1.asked ≡ t0.asked → Went guest most (stand_of t1) b t1 t2 b c n
+      → Went guest most (stand_of t0) a t0 t2 a c n
+  went_after t0 t1 t2 a b c n runs count asked went =
+      went_on (stand_of t0) a t0 t1 t2 a b c n runs count asked (record {
         runs = went.runs;
         needs = needs_after (stand_of t0) (stand_of t1) a b t2 c n runs went.needs;
         busy = went.busy;
-        limit = went.limit;
         count = went.count;
         asked = went.asked;
       })
 
   pub went_by : (s : Stand) (z : Boards) (t t' : TurnState) (a b : Boards) (n : Option Next)
-      → Runs guest (stand_of t) a (left_by n t') b → NeedsNext guest most s z t' b n
-      → GoesOnFor guest (stand_of t) a t' b n
+      → Runs guest most (stand_of t) a (left_by n t') b → NeedsNext guest most s z t' b n
+      → GoesOnFor guest most (stand_of t) a t' b n
       → length b.devices ≡ length a.devices → t'.asked ≡ t.asked
-      → KeepsLimit guest most a.rest b.rest → Went guest most s z t t' a b n
-  went_by s z t t' a b n runs needs busy count asked limit = record {
+      → Went guest most s z t t' a b n
+  went_by s z t t' a b n runs needs busy count asked = record {
     runs = runs;
     needs = needs;
     busy = busy;
-    limit = limit;
     count = count;
     asked = asked;
   }
@@ -274,18 +272,20 @@ module _ (guest most : ℕ) where
     none = found.none;
   }
 
-  pub ended_on : (s u v : Stand) (z a b : Boards) (f : Option MachineFault) → Runs guest u a v b
+  pub ended_on : (s u v : Stand) (z a b : Boards) (f : Option MachineFault)
+      → Runs guest most u a v b
       → SameDevices a b → KeepsWaiting guest a.rest b.rest → HasEnded guest most s z u a f
       → HasEnded guest most s z v b f
   ended_on s u v z a b None runs same keeps ended = (
     ap (λ js. in_place (slice_get js guest)) keeps.0 ∙ ended.0,
     elim ended.1 [
       | inl found ↦ inl
-          (finds_same a b same found.0, looks_then guest s u v z a b found.1 runs)
+          (finds_same a b same found.0, looks_then guest most s u v z a b found.1 runs)
       | inr full ↦ inr (ap (λ n. nat_lt n most) keeps.1 ∙ full)
     ],
   )
-  ended_on s u v z a b (Some f) runs same keeps ended = reason_then guest f s u v z a b ended runs
+  ended_on s u v z a b (Some f) runs same keeps ended = reason_then guest most f s u v z a b ended
+      runs
 
   pub rest_needs : (s : Stand) (z : Boards) (turn : TurnState) (b : Boards)
       (o : Option MachineFault) → HasEnded guest most s z (stand_of turn) b o → IsSettled guest b
@@ -305,7 +305,7 @@ module _ (guest most : ℕ) where
   notified_needs s z t b (Some (next.Rest f)) needs = absurd needs
 
   pub notified_busy : (s : Stand) (a b : Boards) (t : TurnState) (n : Next)
-      → NotifiesNext guest b (Some n) → GoesOnFor guest s a t b (Some n)
+      → NotifiesNext guest b (Some n) → GoesOnFor guest most s a t b (Some n)
   notified_busy s a b t next.Again needs = absurd needs
   notified_busy s a b t (next.Read ask) needs = tt
   notified_busy s a b t (next.Write part) needs = tt

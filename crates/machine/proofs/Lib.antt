@@ -9,6 +9,7 @@ pub mod Going
 pub mod Goings
 pub mod Handed
 pub mod Limits
+pub mod Remaining
 pub mod Replies
 pub mod Rests
 pub mod Moved

@@ -1,13 +1,13 @@
 -- How many chains of a guest wait: a pop adds one at most, and no other step of a serve adds any.
-use Rattle.std.proofs.Common.{◌≡◌, ◌≤◌, ◌<◌, inl, inr, refl, ap, ◌∙◌, ℕ, ◌+◌, Bool, true, false}
+use Rattle.std.proofs.Common.{◌≡◌, ◌≤◌, ◌<◌, inl, inr, refl, ap, subst, ◌∙◌, ℕ, ◌+◌, Bool, true, false}
 use Rattle.std.proofs.Common.{Option, Some, None, List, [], ◌∷◌, drop, length, arith, length-append}
-use Rattle.std.proofs.Common.{length-set}
 use Rattle.std.specs.Prelude.{option_map, if◌then◌else◌, ◌==◌, is_some, nat_lt}
 use Rattle.board.proofs.Common.{nat_tests}
 use Rattle.machine.proofs.Common.{slice_get, Answer, BoardState, Boards, CollectsInto}
 use Rattle.machine.proofs.Common.{DeviceState, Done, HandsReply, Job, Makes, OutboxMakes, OutboxState}
 use Rattle.machine.proofs.Common.{PopsInto, SubmitsFrom, Tally, board_of, get_set_same, in_place}
-use Rattle.machine.proofs.Common.{outbox_state, put}
+use Rattle.machine.proofs.Common.{outbox_state, put, Calls, GivesUp, Hands, IsShare, LearnsOf, Pops}
+use Rattle.machine.proofs.Common.{Runs, Stand, Step, Still, Then, Voids, standing}
 use Rattle.mmio_transport.specs.declared.done.Published.{Published}
 use Rattle.rpmb_book.proofs.ByGuest.{by_guest}
 use Rattle.rpmb_book.proofs.Replay.{replay-push}
@@ -20,7 +20,8 @@ use Rattle.rpmb_book.specs.Turn.{Collect}
 use Rattle.board.specs.State.{count_held, count_in, waiting}
 use Rattle.board.specs.declared.step.Step.TheVariants as step
 use Rattle.machine.specs.Ending.{TakesAnswer, Full, Outside, Short, Told}
-use Rattle.machine.specs.Serving.{AddsNone, KeepsLimit, KeepsWaiting}
+use Rattle.machine.specs.Serving.{KeepsLimit, KeepsWaiting}
+use Rattle.machine.proofs.Waiting.{advanced_waits, gave_waits, settled_waits, took_waits}
 use Rattle.machine.specs.declared.turn.Asked.{Asked}
 use Rattle.machine.specs.declared.turn.Asked.TheVariants as asked
 
@@ -83,7 +84,8 @@ collected_held : (b : BookView) (k : ℕ) (done : Done) → due_of b k ≡ Some 
     → count_held (guest_of (with_turn b (Collect k)) k) + 1 ≤ count_held (guest_of b k)
 collected_held b k done is =
     let now = ap (λ s. count_held (slice_get s.guests k))
-    (replay-push b.opening b.history (Collect k)) ∙ ap count_held (by_guest (state b) (Collect k) k) in
+    (replay-push b.opening b.history (Collect k))
+    ∙ ap count_held (by_guest (state b) (Collect k) k) in
     let less = due_less k (state b).broken (guest_of b k) done is in
     omega (arith, now, less)
 
@@ -149,18 +151,18 @@ module _ (g : ℕ) (old new : BoardState OutboxState) where
   collect_waits answer (Some None) does = collect_by (due_of old.book g) refl does.1
 
 module _ (g : ℕ) (answer : Answer) (a b : Boards) where
-  pub popped_waits : Makes (step.Pop g) answer a b → waiting g b.rest ≤ waiting g a.rest + 1
+  popped_waits : Makes (step.Pop g) answer a b → waiting g b.rest ≤ waiting g a.rest + 1
   popped_waits makes = pop_waits g (board_of a) (board_of b) answer _ _ makes.steps.does
 
-  pub submitted_waits : Makes (step.Submit g) answer a b → waiting g b.rest ≤ waiting g a.rest
+  submitted_waits : Makes (step.Submit g) answer a b → waiting g b.rest ≤ waiting g a.rest
   submitted_waits makes =
       submit_waits g (board_of a) (board_of b) answer _ _ refl makes.steps.does
 
-  pub collected_waits : Makes (step.Collect g) answer a b → waiting g b.rest ≤ waiting g a.rest
+  collected_waits : Makes (step.Collect g) answer a b → waiting g b.rest ≤ waiting g a.rest
   collected_waits makes = collect_waits g (board_of a) (board_of b) answer _ makes.steps.does
 
 -- a reply that is handed to its device no longer lies in its place
-pub handed_waits : (g : ℕ) (published : Published) (a b : Boards)
+handed_waits : (g : ℕ) (published : Published) (a b : Boards)
     → HandsReply outbox_state OutboxMakes g published a b → waiting g b.rest ≤ waiting g a.rest
 handed_waits g published a b hands =
     let was = ap count_in hands.lay in
@@ -168,13 +170,6 @@ handed_waits g published a b hands =
     let jobs = ap (λ x. count_in (in_place (slice_get x.rest.jobs g))) hands.after in
     let few = count_few (in_place (slice_get b.rest.dones g)) in
     omega (arith, was, held, jobs, few)
-
-pub handed_fewer : (g : ℕ) (published : Published) (a b : Boards)
-    → HandsReply outbox_state OutboxMakes g published a b → AddsNone g a b
-handed_fewer g published a b hands = (
-  ap (λ x. length x.devices) hands.after ∙ length-set a.devices g hands.device',
-  handed_waits g published a b hands,
-)
 
 -- 3. One move after another
 
@@ -185,11 +180,11 @@ module _ (g most : ℕ) (a b : BoardState OutboxState) where
   pub limit_same : b ≡ a → KeepsLimit g most a b
   limit_same is = inl (let same = ap (λ r. waiting g r) is in omega (arith, same))
 
-  pub limit_kept : KeepsWaiting g a b → KeepsLimit g most a b
+  limit_kept : KeepsWaiting g a b → KeepsLimit g most a b
   limit_kept keeps = inl (let same = keeps.1 in omega (arith, same))
 
   -- a chain more was taken where fewer wait than may
-  pub limit_one : nat_lt (waiting g a) most ≡ true → waiting g b ≤ waiting g a + 1
+  limit_one : nat_lt (waiting g a) most ≡ true → waiting g b ≤ waiting g a + 1
       → KeepsLimit g most a b
   limit_one fewer one = inr (let below = is_below (waiting g a) most fewer in
       omega (arith, below, one))
@@ -214,3 +209,50 @@ answered_rest g (asked.Read ask) true bytes ok old new (Short is few refuses) =
     ap (λ b. b.rest) refuses.after
 answered_rest g (asked.Read ask) true bytes ok old new (Outside is out refuses) =
     ap (λ b. b.rest) refuses.after
+
+-- 4. All steps of a guest
+
+module _ (g most : ℕ) where
+  step_limit : (x : Step) (answer : Answer) (a b : Boards) → IsShare g x a → Makes x answer a b
+      → KeepsLimit g most a.rest b.rest
+  step_limit (step.Drive k act) answer a b share makes = absurd share
+  step_limit (step.Pop k) answer a b share makes = absurd share
+  step_limit (step.Submit k) answer a b share makes =
+      inl (submitted_waits g answer a b
+      (subst (λ n. Makes (step.Submit n) answer a b) share makes))
+  step_limit (step.Collect k) answer a b share makes =
+      inl (collected_waits g answer a b
+      (subst (λ n. Makes (step.Collect n) answer a b) share makes))
+  step_limit (step.Publish k) answer a b share makes = absurd share
+  step_limit (step.Take k) answer a b share makes =
+      limit_kept g most a.rest b.rest (took_waits g answer a b k makes)
+  step_limit (step.Give k) answer a b share makes =
+      limit_kept g most a.rest b.rest (gave_waits g answer a b k makes)
+  step_limit step.Advance answer a b share makes =
+      limit_kept g most a.rest b.rest (advanced_waits g answer a b makes)
+  step_limit step.Settle answer a b share makes =
+      limit_kept g most a.rest b.rest (settled_waits g answer a b makes)
+
+  -- no more of its chains wait behind them than before, or than may
+  pub runs_limit : (s t : Stand) (a b : Boards) → Runs g most s a t b
+      → KeepsLimit g most a.rest b.rest
+  runs_limit s t a b (Still r d) = limit_same g most d.rest d.rest refl
+  runs_limit s t a b (Then q r x y z o answer runs share makes) =
+      limit_twice g most x.rest y.rest z.rest (runs_limit q r x y runs)
+      (step_limit o answer y z share makes)
+  runs_limit s t a b (Pops q r x y z answer runs pops) =
+      limit_twice g most x.rest y.rest z.rest (runs_limit q (standing [] true) x y runs)
+      (limit_one g most y.rest z.rest pops.fewer (popped_waits g answer y z pops.makes))
+  runs_limit s t a b (Hands q r x y z runs hands) =
+      limit_twice g most x.rest y.rest z.rest (runs_limit q (standing [] true) x y runs)
+      (inl (handed_waits g hands.published y z hands.hands))
+  runs_limit s t a b (LearnsOf q r v w x y z none runs knows) =
+      limit_twice g most x.rest y.rest z.rest (runs_limit q (standing r v) x y runs)
+      (limit_same g most y.rest z.rest (ap (λ b. b.rest) knows.after))
+  runs_limit s t a b (GivesUp q r v x y runs) = runs_limit q (standing r v) x y runs
+  runs_limit s t a b (Calls q r x y z runs notified) =
+      limit_twice g most x.rest y.rest z.rest (runs_limit q (standing r true) x y runs)
+      (limit_same g most y.rest z.rest (ap (λ b. b.rest) notified.after))
+  runs_limit s t a b (Voids q r v x y z runs why refuses) =
+      limit_twice g most x.rest y.rest z.rest (runs_limit q (standing r v) x y runs)
+      (limit_same g most y.rest z.rest (ap (λ b. b.rest) refuses.after))

@@ -18,16 +18,17 @@ moved b guest d = record b { devices = slice_set b.devices guest d }
 
 module _ (guest : ℕ) (b : Boards) (d d' : AskingState)
     (its : slice_get b.devices guest ≡ Some d) where
-  pub moved_runs : (ps : List Range) (g h : Bool) → (g ≡ false → h ≡ true → ps ≡ [])
+  pub moved_runs : (most : ℕ) (ps : List Range) (g h : Bool) → (g ≡ false → h ≡ true → ps ≡ [])
       → Learns guest b g d h d'
-      → Runs guest (standing ps g) b (standing ps h) (moved b guest d')
-  moved_runs ps g h none learns = runs_knows guest ps g h b (moved b guest d') none (record {
-    device = d;
-    its = its;
-    device' = d';
-    learns = learns;
-    after = refl;
-  })
+      → Runs guest most (standing ps g) b (standing ps h) (moved b guest d')
+  moved_runs most ps g h none learns = runs_knows guest most ps g h b (moved b guest d') none
+      (record {
+        device = d;
+        its = its;
+        device' = d';
+        learns = learns;
+        after = refl;
+      })
 
   pub moved_same : d'.device ≡ d.device → SameDevices b (moved b guest d')
   moved_same same = unseen (λ a. a.device) b.devices guest d d' its same
@@ -40,19 +41,20 @@ module _ (guest : ℕ) (b : Boards) (d d' : AskingState)
 
   -- what changed nothing
   pub moved_none : d' ≡ d → moved b guest d' ≡ b
-  moved_none same = ap (λ (ds : List AskingState). (let v : Boards = record b { devices = ds } in v))
+  moved_none same = ap (λ (ds : List AskingState).
+      (let v : Boards = record b { devices = ds } in v))
       (ap (slice_set b.devices guest) same ∙ set_same b.devices guest d its)
 
   -- bytes were told, or there was no memory for them
-  pub told_runs : {X : Type 0} (ps : List Range) (g : Bool) (part : Range) (zeros : List ℕ)
-      (r : Result X MemFault) → IsToWrite guest b d part → length zeros ≤ part.len
+  pub told_runs : {X : Type 0} (most : ℕ) (ps : List Range) (g : Bool) (part : Range)
+      (zeros : List ℕ) (r : Result X MemFault) → IsToWrite guest b d part → length zeros ≤ part.len
       → All (λ v. v ≡ 0) zeros → OnOk r (d' ≡ after_told d part.at zeros) → OnErr r (d' ≡ d)
-      → Runs guest (standing ps g) b (standing ps g) (moved b guest d')
-  told_runs ps g part zeros (Ok x) own few all ok err =
-      moved_runs ps g g (λ off on. absurd (let a = off in let b_ = on in cc))
+      → Runs guest most (standing ps g) b (standing ps g) (moved b guest d')
+  told_runs most ps g part zeros (Ok x) own few all ok err =
+      moved_runs most ps g g (λ off on. absurd (let a = off in let b_ = on in cc))
       (Tells g d d' part zeros own few all ok)
-  told_runs ps g part zeros (Err e) own few all ok err =
-      subst (λ v. Runs guest (standing ps g) b (standing ps g) v) (sym (moved_none err))
+  told_runs most ps g part zeros (Err e) own few all ok err =
+      subst (λ v. Runs guest most (standing ps g) b (standing ps g) v) (sym (moved_none err))
       (Still (standing ps g) b)
 
   pub told_queues : {X : Type 0} (at : ℕ) (bytes : List ℕ) (r : Result X MemFault)

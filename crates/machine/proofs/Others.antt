@@ -133,7 +133,8 @@ module _ {D : Type 0} (shows : D → DiskState) (makes : D → DiskCall → D �
 -- the guest of a step is the one that is served
 module _ (guest : ℕ) where
   one_stays : (s : Step) (answer : Answer) (b : Boards) (old new : BoardState OutboxState)
-      → IsShare guest s b → Does outbox_state OutboxMakes s answer old new → OthersStay guest old new
+      → IsShare guest s b → Does outbox_state OutboxMakes s answer old new
+      → OthersStay guest old new
   one_stays (step.Drive g act) answer b old new share does = absurd share
   one_stays (step.Pop g) answer b old new share does = absurd share
   one_stays (step.Submit g) answer b old new share does = subst (λ n. OthersStay n old new) share
@@ -184,33 +185,33 @@ module _ (guest : ℕ) where
         intents = λ k other. refl;
       })
 
-  pub others_stay : (s t : Stand) (a b : Boards) → Runs guest s a t b
+  pub others_stay : (most : ℕ) (s t : Stand) (a b : Boards) → Runs guest most s a t b
       → OthersStay guest (board_of a) (board_of b)
-  others_stay s t a b (Still r d) =
+  others_stay most s t a b (Still r d) =
       stays_same outbox_state OutboxMakes guest (board_of d) (board_of d) refl
-  others_stay s t a b (Then q r x y z o answer runs share makes) =
+  others_stay most s t a b (Then q r x y z o answer runs share makes) =
       stays_twice outbox_state OutboxMakes guest (board_of x) (board_of y) (board_of z)
-      (others_stay q r x y runs)
+      (others_stay most q r x y runs)
       (one_stays o answer y (board_of y) (board_of z) share makes.steps.does)
-  others_stay s t a b (Pops q r x y z answer runs pops) =
+  others_stay most s t a b (Pops q r x y z answer runs pops) =
       stays_twice outbox_state OutboxMakes guest (board_of x) (board_of y) (board_of z)
-      (others_stay q (standing [] true) x y runs)
+      (others_stay most q (standing [] true) x y runs)
       (pop_stays outbox_state OutboxMakes guest (board_of y) answer (board_of z) _ _
       pops.makes.steps.does)
-  others_stay s t a b (Hands q r x y z runs hands) =
+  others_stay most s t a b (Hands q r x y z runs hands) =
       stays_twice outbox_state OutboxMakes guest (board_of x) (board_of y) (board_of z)
-      (others_stay q (standing [] true) x y runs) (hands_stay y z r hands)
-  others_stay s t a b (LearnsOf q r g h x y z none runs knows) =
+      (others_stay most q (standing [] true) x y runs) (hands_stay y z r hands)
+  others_stay most s t a b (LearnsOf q r g h x y z none runs knows) =
       stays_twice outbox_state OutboxMakes guest (board_of x) (board_of y) (board_of z)
-      (others_stay q (standing r g) x y runs) (known_stays g h y z knows)
-  others_stay s t a b (GivesUp q r g x y runs) = others_stay q (standing r g) x y runs
-  others_stay s t a b (Calls q r x y z runs notified) =
+      (others_stay most q (standing r g) x y runs) (known_stays g h y z knows)
+  others_stay most s t a b (GivesUp q r g x y runs) = others_stay most q (standing r g) x y runs
+  others_stay most s t a b (Calls q r x y z runs notified) =
       stays_twice outbox_state OutboxMakes guest (board_of x) (board_of y) (board_of z)
-      (others_stay q (standing r true) x y runs)
+      (others_stay most q (standing r true) x y runs)
       (device_stays y z notified.device' notified.after)
-  others_stay s t a b (Voids q r g x y z runs why refuses) =
+  others_stay most s t a b (Voids q r g x y z runs why refuses) =
       stays_twice outbox_state OutboxMakes guest (board_of x) (board_of y) (board_of z)
-      (others_stay q (standing r g) x y runs) (device_stays y z _ refuses.after)
+      (others_stay most q (standing r g) x y runs) (device_stays y z _ refuses.after)
 
   pub begins_stay : (s t : Stand) (a b : Boards) → Begins guest s a t b
       → OthersStay guest (board_of a) (board_of b)

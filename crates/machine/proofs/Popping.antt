@@ -1,11 +1,11 @@
 -- What a pop of the guest's device comes to.
-use Rattle.std.proofs.Common.{◌≡◌, ◌<◌, ◌⊎◌, inl, ap, sym, subst, ◌∙◌, ℕ, Bool, true, false}
+use Rattle.std.proofs.Common.{◌≡◌, ◌<◌, ap, sym, subst, ◌∙◌, ℕ, Bool, true, false}
 use Rattle.std.proofs.Common.{List, [], ◌∷◌, ◌++◌, Option, Some, None, Result, Ok, Err, length}
 use Rattle.std.proofs.Common.{get_or}
 use Rattle.std.proofs.Common.{arith, IfSome, refl, if◌then◌else◌}
 use Rattle.machine.proofs.Common.{slice_get, slice_set, Answer, AskingState, BoardState, Boards}
 use Rattle.machine.proofs.Common.{DeviceState, HasNoJob, IsSound, Job, Makes, OutboxState}
-use Rattle.machine.proofs.Common.{Pops, PopsInto, Range, Runs, Still, board_of, get_set_same}
+use Rattle.machine.proofs.Common.{Pops, PopsInto, PopsOne, Range, Runs, Still, board_of, get_set_same}
 use Rattle.machine.proofs.Common.{in_place, outbox_state, put, GivesUp, Stand, standing}
 use Rattle.board.proofs.AskingSteps.{device_in}
 use Rattle.board.proofs.Common.{option_map, slice_get-get_or, slice_get-map, length-map}
@@ -16,7 +16,7 @@ use Rattle.board.specs.Steps.{job_of, pop_answer}
 use Rattle.board.specs.declared.step.Seen.TheVariants.{Did, Nothing}
 use Rattle.board.specs.declared.step.Step.TheVariants as step
 use Rattle.machine.specs.Ending.{FindsNone}
-use Rattle.machine.specs.Serving.{ByPop, DoesSome, WritesAll}
+use Rattle.machine.specs.Serving.{ByPop, DoesSome}
 use Rattle.machine.specs.Turn.{TurnState, pop_parts, stand_of}
 
 -- there is an element at each index below the length
@@ -25,53 +25,43 @@ pub some_at : {X : Type 0} (xs : List X) (k : ℕ) → k < length xs
 some_at [] k below = absurd (omega (arith, below))
 some_at (y ∷ ys) k below = (get_or (y ∷ ys) k y, slice_get-get_or (y ∷ ys) k y below)
 
-pub still_by : (guest : ℕ) (g : Bool) (t : Stand) (b b' : Boards) → t ≡ standing [] g → b' ≡ b
-    → Runs guest (standing [] g) b t b'
-still_by guest g t b b' none same =
-    subst (λ r. Runs guest (standing [] g) b r b') (sym none)
-    (subst (λ x. Runs guest (standing [] g) b (standing [] g) x) (sym same)
+pub still_by : (guest most : ℕ) (g : Bool) (t : Stand) (b b' : Boards) → t ≡ standing [] g → b' ≡ b
+    → Runs guest most (standing [] g) b t b'
+still_by guest most g t b b' none same =
+    subst (λ r. Runs guest most (standing [] g) b r b') (sym none)
+    (subst (λ x. Runs guest most (standing [] g) b (standing [] g) x) (sym same)
     (Still (standing [] g) b))
 
 -- a step that was begun is given up
-pub gives_up : (guest : ℕ) (ps : List Range) (g : Bool) (t : Stand) (b : Boards)
-    → t ≡ standing ps false → Runs guest (standing ps g) b t b
-gives_up guest ps g t b over = subst (λ r. Runs guest (standing ps g) b r b) (sym over)
+pub gives_up : (guest most : ℕ) (ps : List Range) (g : Bool) (t : Stand) (b : Boards)
+    → t ≡ standing ps false → Runs guest most (standing ps g) b t b
+gives_up guest most ps g t b over = subst (λ r. Runs guest most (standing ps g) b r b) (sym over)
     (GivesUp (standing ps g) ps g b b (Still (standing ps g) b))
 
 -- the step is over, and nothing is to be copied out
-pub over_by : (guest : ℕ) (turn : TurnState) (b : Boards) → turn.parts ≡ [] → turn.going ≡ false
-    → Runs guest (standing [] false) b (stand_of turn) b
-over_by guest turn b none over =
-    subst (λ g. Runs guest (standing [] false) b (standing turn.parts g) b) (sym over)
-    (subst (λ ps. Runs guest (standing [] false) b (standing ps false) b) (sym none)
+pub over_by : (guest most : ℕ) (turn : TurnState) (b : Boards) → turn.parts ≡ []
+    → turn.going ≡ false
+    → Runs guest most (standing [] false) b (stand_of turn) b
+over_by guest most turn b none over =
+    subst (λ g. Runs guest most (standing [] false) b (standing turn.parts g) b) (sym over)
+    (subst (λ ps. Runs guest most (standing [] false) b (standing ps false) b) (sym none)
     (Still (standing [] false) b))
 
-pub pops_by : (guest : ℕ) (qs : List Range) (v : Bool) (answer : Answer) (b b' : Boards)
-    (d : AskingState) → slice_get b.devices guest ≡ Some d
-    → slice_get b.rest.jobs guest ≡ Some None → Makes (step.Pop guest) answer b b'
-    → v ≡ false → WritesAll d answer qs ⊎ ((qs ≡ []) × ((answer ≡ Ok Did) → ⊥))
-    → Runs guest (standing [] true) b (standing qs v) b'
-pops_by guest qs v answer b b' d its empty makes over parts =
-    subst (λ h. Runs guest (standing [] true) b (standing qs h) b') (sym over)
-    (Pops (standing [] true) qs b b b' answer (Still (standing [] true) b) (record {
-      makes = makes;
-      device = d;
-      its = its;
-      empty = empty;
-      parts_are = parts;
-    }))
+pub pops_by : (guest most : ℕ) (qs : List Range) (v : Bool) (answer : Answer) (b b' : Boards)
+    → PopsOne guest most answer b qs b' → v ≡ false
+    → Runs guest most (standing [] true) b (standing qs v) b'
+pops_by guest most qs v answer b b' pops over =
+    subst (λ h. Runs guest most (standing [] true) b (standing qs h) b') (sym over)
+    (Pops (standing [] true) qs b b b' answer (Still (standing [] true) b) pops)
 
 -- and where it gave a chain something was done
-pub pops_does : (guest : ℕ) (qs : List Range) (v : Bool) (answer : Answer) (b b' : Boards)
-    (d : AskingState) → slice_get b.devices guest ≡ Some d
-    → slice_get b.rest.jobs guest ≡ Some None → Makes (step.Pop guest) answer b b'
-    → v ≡ false → WritesAll d answer qs → answer ≡ Ok Did
-    → DoesSome guest (standing [] true) b (standing qs v) b'
-pops_does guest qs v answer b b' d its empty makes over writes some =
-    subst (λ h. DoesSome guest (standing [] true) b (standing qs h) b') (sym over)
-    (ByPop (standing [] true) (standing qs false) qs b b b' b' answer (Still (standing [] true) b)
-    (record { makes = makes; device = d; its = its; empty = empty; parts_are = inl writes }) some
-    (Still (standing qs false) b'))
+pub pops_does : (guest most : ℕ) (qs : List Range) (v : Bool) (b b' : Boards)
+    → PopsOne guest most (Ok Did) b qs b' → v ≡ false
+    → DoesSome guest most (standing [] true) b (standing qs v) b'
+pops_does guest most qs v b b' pops over =
+    subst (λ h. DoesSome guest most (standing [] true) b (standing qs h) b') (sym over)
+    (ByPop (standing [] true) (standing qs false) qs b b b' b' (Ok Did) (Still (standing [] true) b)
+    pops refl (Still (standing qs false) b'))
 
 -- the parts that were noted of the guest's device
 pub noted_at : (o : Option AskingState) (d : AskingState) (ps qs : List Range) → o ≡ Some d

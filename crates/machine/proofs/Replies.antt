@@ -1,6 +1,7 @@
 -- What a reply that is handed to its device is to copy out.
 use Rattle.std.proofs.Common.{◌≡◌, refl, ap, sym, subst, ◌∙◌, ℕ, List, [], ◌++◌}
 use Rattle.std.proofs.Common.{Option, Some, length, map, IfSome, Bool, true, false}
+use Rattle.std.proofs.Common.{length-set}
 use Rattle.std.specs.Prelude.{option_map, IsSome, None}
 use Rattle.machine.proofs.Common.{slice_get, AskingState, Boards, Done, Hands, HandsReply}
 use Rattle.machine.proofs.Common.{OutboxMakes, Range, Runs, Still, in_place, outbox_state}
@@ -12,27 +13,34 @@ use Rattle.mmio_transport.specs.declared.done.Published.{Published}
 use Rattle.machine.specs.Serving.{ByReply, DoesSome, IsNoted, QueuesStay, due_parts}
 use Rattle.machine.specs.Turn.{filled_parts, reply_parts}
 
-pub hands_by : (guest : ℕ) (qs : List Range) (v : Bool) (published : Published) (b b' : Boards)
+pub hands_by : (guest most : ℕ) (qs : List Range) (v : Bool) (published : Published) (b b' : Boards)
     (h : HandsReply outbox_state OutboxMakes guest published b b') → v ≡ false
     → qs ≡ reply_parts h.device.device h.done published
-    → Runs guest (standing [] true) b (standing qs v) b'
-hands_by guest qs v published b b' h over parts =
-    subst (λ g. Runs guest (standing [] true) b (standing qs g) b') (sym over)
+    → Runs guest most (standing [] true) b (standing qs v) b'
+hands_by guest most qs v published b b' h over parts =
+    subst (λ g. Runs guest most (standing [] true) b (standing qs g) b') (sym over)
     (Hands (standing [] true) qs b b b' (Still (standing [] true) b) (record {
       published = published;
       hands = h;
       parts_are = parts;
     }))
 
-pub hands_does : (guest : ℕ) (qs : List Range) (v : Bool) (published : Published) (b b' : Boards)
+pub hands_does : (guest most : ℕ) (qs : List Range) (v : Bool) (published : Published)
+    (b b' : Boards)
     (h : HandsReply outbox_state OutboxMakes guest published b b') → v ≡ false
     → qs ≡ reply_parts h.device.device h.done published
-    → DoesSome guest (standing [] true) b (standing qs v) b'
-hands_does guest qs v published b b' h over parts =
-    subst (λ g. DoesSome guest (standing [] true) b (standing qs g) b') (sym over)
+    → DoesSome guest most (standing [] true) b (standing qs v) b'
+hands_does guest most qs v published b b' h over parts =
+    subst (λ g. DoesSome guest most (standing [] true) b (standing qs g) b') (sym over)
     (ByReply (standing [] true) (standing qs false) qs b b b' b' (Still (standing [] true) b)
     (record { published = published; hands = h; parts_are = parts })
     (Still (standing qs false) b'))
+
+pub handed_count : (guest : ℕ) (published : Published) (b b' : Boards)
+    → HandsReply outbox_state OutboxMakes guest published b b'
+    → length b'.devices ≡ length b.devices
+handed_count guest published b b' h =
+    ap (λ x. length x.devices) h.after ∙ length-set b.devices guest h.device'
 
 pub noted_reply : (guest : ℕ) (ps : List Range) (b : Boards) (d : AskingState) (done : Done)
     → IsNoted guest ps b → in_place (slice_get b.rest.dones guest) ≡ Some done

@@ -1,6 +1,6 @@
 -- What a monitor is asked for.
 use Rattle.std.proofs.Common.{◌≡◌, ◌≤◌, ◌<◌, refl, ap, sym, subst, ◌∙◌, ℕ, Bool, true, false, List}
-use Rattle.std.proofs.Common.{Some, None, Option, IfSome, length, arith}
+use Rattle.std.proofs.Common.{Some, None, IfSome, length, arith}
 use Rattle.std.proofs.lemmas.Option.{slice_get_past}
 use Rattle.std.specs.Prelude.{take}
 use Rattle.guest_memory.specs.Memory.{bytes_at}
@@ -10,17 +10,18 @@ use Rattle.machine.proofs.Common.{Boards, MachineState, Range, Runs}
 use Rattle.board.specs.State.{owes}
 use Rattle.machine.specs.Ending.{Begins, EndsFor, GoesOn, HearsAnswer, IsBusy, NeedsNext}
 use Rattle.machine.specs.Ending.{NeedsTold, TakesAnswer, left_by}
-use Rattle.machine.specs.Machine.{IsTold, LimitIn, NeedsOf, NoRoom, NoSuchGuest, OfSteps, ReadsOf}
-use Rattle.machine.specs.Machine.{RestsIn}
+use Rattle.machine.specs.Machine.{IsTold, NeedsOf, NoRoom, NoSuchGuest, OfSteps, ReadsOf}
+use Rattle.machine.specs.Machine.{RestsIn, most_in}
 use Rattle.machine.specs.Machine.{TellsOf, has_guest, is_over, left_of, turn_in, turn_of}
 use Rattle.machine.specs.Machine.{waits_for_sync}
 use Rattle.machine.specs.declared.fault.MachineFault.TheVariants as fault
 use Rattle.machine.specs.Serving.{KeepsLimit}
 use Rattle.machine.specs.Settings.{most_of}
 use Rattle.machine.specs.Turn.{Stand, TurnState, stand_of}
-use Rattle.machine.proofs.Limits.{limit_same}
+use Rattle.machine.proofs.Limits.{answered_rest, limit_same, limit_twice, runs_limit}
 use Rattle.machine.proofs.Runs.{still_same}
 use Rattle.machine.specs.declared.machine.Served.{Served}
+use Rattle.machine.specs.declared.machine.What.{What}
 use Rattle.machine.specs.declared.machine.What.TheVariants as what
 use Rattle.machine.specs.declared.serving.Next.{Next}
 use Rattle.machine.specs.declared.serving.Next.TheVariants as next
@@ -49,20 +50,24 @@ module _ (guest most : ℕ) (from : Stand) (old : Boards) (turn : TurnState) (by
 module _ (guest room : ℕ) (old new : MachineState) (w : Setup) (bytes : List ℕ) (left : Stand)
     (heard : Boards) (setup : slice_get old.setups guest ≡ Some w) where
   abbrev Busy : Type 0
-  Busy = IsBusy guest left heard (stand_of (turn_of new guest)) new.board
+  Busy = IsBusy guest (most_of w) left heard (stand_of (turn_of new guest)) new.board
+
+  abbrev Needs : Served → What → Type 0
+  Needs s x = NeedsOf guest (most_of w) room x s bytes left heard old new
 
   pub needs_of : (n : Next) (s : Served) → IsTold n s
       → NeedsTold guest (most_of w) left heard (turn_of new guest) bytes new.board n
-      → (n ≡ next.Again → Busy) → NeedsOf guest room s.what s bytes left heard old new
+      → (n ≡ next.Again → Busy)
+      → NeedsOf guest (most_of w) room s.what s bytes left heard old new
   needs_of next.Again s told needs busy =
-      subst (λ x. NeedsOf guest room x s bytes left heard old new) (sym told.0) (busy refl)
+      subst (Needs s) (sym told.0) (busy refl)
   needs_of (next.Read ask) s told needs busy =
-      subst (λ x. NeedsOf guest room x s bytes left heard old new) (sym told.0)
+      subst (Needs s) (sym told.0)
       (subst (λ at. ReadsOf guest at s.len new) (sym told.2)
       (subst (λ len. ReadsOf guest ask.at len new) (sym told.3)
       (record { asks = needs.0; few = needs.1; noted = needs.2 })))
   needs_of (next.Write part) s told needs busy =
-      subst (λ x. NeedsOf guest room x s bytes left heard old new) (sym told.0)
+      subst (Needs s) (sym told.0)
       (record {
         bytes_are = subst (λ at. IfSome (slice_get new.board.devices guest) (λ d.
             take s.len bytes ≡ bytes_at d.device.memory at s.len)) (sym told.2)
@@ -71,16 +76,17 @@ module _ (guest room : ℕ) (old new : MachineState) (w : Setup) (bytes : List �
         noted = needs.0;
       })
   needs_of next.Call s told needs busy =
-      subst (λ x. NeedsOf guest room x s bytes left heard old new) (sym told.0) tt
+      subst (Needs s) (sym told.0) tt
   needs_of (next.Rest None) s told needs busy =
-      subst (λ x. NeedsOf guest room x s bytes left heard old new) (sym told.0) (
+      subst (Needs s) (sym told.0) (
         (λ none. subst (λ o. RestsIn guest o left heard new) (sym setup) needs),
         (λ f some. absurd (let no = told.1 in let yes_ = some in cc)),
       )
   needs_of (next.Rest (Some f)) s told needs busy =
-      subst (λ x. NeedsOf guest room x s bytes left heard old new) (sym told.0) (
+      subst (Needs s) (sym told.0) (
         (λ none. absurd (let no = told.1 in let yes_ = none in cc)),
-        (λ g some. OfSteps (subst (λ x. EndsFor guest x left heard (turn_of new guest) new.board)
+        (λ g some. OfSteps (subst (λ x. EndsFor guest (most_of w) x left heard
+            (turn_of new guest) new.board)
             (let a = told.1 in let b = some in cc) needs)),
       )
 
@@ -133,9 +139,8 @@ module _ (m : MachineState) (guest : ℕ) where
   no_device past = and_third (is_some (slice_get m.setups guest))
       (is_some (slice_get m.turns guest)) _ (none_past m.board.devices guest past)
 
-  no_more : (o : Option Setup) → LimitIn guest o m m
-  no_more None = tt
-  no_more (Some w) = limit_same guest (most_of w) m.board.rest m.board.rest refl
+  abbrev most : ℕ
+  most = most_in (slice_get m.setups guest)
 
   -- a guest that there isn't is refused
   pub tells_absent : (there : Bool) (given : List ℕ) (s : Served) → has_guest m guest ≡ false
@@ -147,16 +152,16 @@ module _ (m : MachineState) (guest : ℕ) where
     left = stand_of (turn_of m guest);
     takes = λ has room. absurd (let no = sym absent ∙ has in cc);
     begins = GoesOn refl refl;
-    runs = still_same guest (stand_of (turn_of m guest)) _ m.board
+    runs = still_same guest most (stand_of (turn_of m guest)) _ m.board
         (sym (left_told (next.Rest (Some fault.NoGuest)) s (turn_of m guest) told));
-    needs = subst (λ x. NeedsOf guest (length given) x s given (stand_of (turn_of m guest)) m.board
-        m m) (sym told.0) (
+    needs = subst (λ x. NeedsOf guest most (length given) x s given (stand_of (turn_of m guest))
+        m.board m m) (sym told.0) (
           (λ none. absurd (let no = told.1 in let other = none in cc)),
           (λ f some. NoSuchGuest (let a = told.1 in let b = some in cc) absent refl),
         );
     sync = sync;
     waiting = waiting;
-    limit = no_more (slice_get m.setups guest);
+    limit = limit_same guest most m.board.rest m.board.rest refl;
     quiet = quiet_told (next.Rest (Some fault.NoGuest)) s told;
     absent = λ gone. record { what = told.0; fault = told.1; bytes_are = refl; same = refl };
     short = λ has less. absurd (let no = sym absent ∙ has in cc);
@@ -173,14 +178,14 @@ module _ (m : MachineState) (guest : ℕ) where
     left = stand_of (turn_of m guest);
     takes = λ is room. absurd (omega (arith, short, room));
     begins = GoesOn refl refl;
-    runs = still_same guest (stand_of (turn_of m guest)) _ m.board
+    runs = still_same guest most (stand_of (turn_of m guest)) _ m.board
         (sym (left_told (next.Rest (Some fault.OutOfRange)) s (turn_of m guest) told));
-    needs = subst (λ x. NeedsOf guest (length given) x s given (stand_of (turn_of m guest)) m.board
-        m m) (sym told.0) (
+    needs = subst (λ x. NeedsOf guest most (length given) x s given (stand_of (turn_of m guest))
+        m.board m m) (sym told.0) (
           (λ none. absurd (let no = told.1 in let other = none in cc)),
           (λ f some. NoRoom (let a = told.1 in let b = some in cc) short refl),
         );
-    limit = no_more (slice_get m.setups guest);
+    limit = limit_same guest most m.board.rest m.board.rest refl;
     sync = sync;
     waiting = waiting;
     quiet = quiet_told (next.Rest (Some fault.OutOfRange)) s told;
@@ -197,27 +202,31 @@ module _ (m : MachineState) (guest : ℕ) where
       ∙ ap (λ o. true && is_some o && is_some (slice_get m.board.devices guest)) b
       ∙ ap (λ o. true && true && is_some o) c
 
-  pub tells_of : (most : ℕ) (w : Setup) (turn turn' : TurnState) (there : Bool)
-      (given : List ℕ) (new : Boards) (bytes : List ℕ) (n : Next) (s : Served)
+  pub tells_of : (may : ℕ) (w : Setup) (turn turn' : TurnState) (there : Bool) (given : List ℕ)
+      (new : Boards) (bytes : List ℕ) (n : Next) (s : Served) → may ≡ most_of w
       → slice_get m.setups guest ≡ Some w → slice_get m.turns guest ≡ Some turn
-      → has_guest m guest ≡ true → 16384 ≤ length given → most ≡ most_of w → IsTold n s
-      → HearsAnswer guest most turn.asked there given (stand_of turn) m.board turn' bytes new n
-      → KeepsLimit guest most m.board.rest new.rest
+      → has_guest m guest ≡ true → 16384 ≤ length given → IsTold n s
+      → HearsAnswer guest may turn.asked there given (stand_of turn) m.board turn' bytes new n
       → s.sync ≡ (is_over s.what && waits_for_sync new.rest) → s.waiting ≡ owes guest new.rest
       → TellsOf guest there given s bytes m
       (record m { board = new; turns = slice_set m.turns guest turn' })
-  tells_of most w turn turn' there given new bytes n s setup its has room limit told h capped sync
-      waiting =
+  tells_of may w turn turn' there given new bytes n s is setup its has room told hears
+      sync waiting =
       let m' : MachineState = record m {
         board = new;
         turns = slice_set m.turns guest turn';
       } in
       let set = sym (ap turn_in (get_set_same m.turns guest turn turn' its)) in
       let was = ap turn_in (sym its) in
+      let as_set = ap most_in (sym setup) in
+      let h = subst (λ k. HearsAnswer guest k turn.asked there given (stand_of turn) m.board turn'
+      bytes new n) is hears in
+      let runs = subst (λ u. Runs guest (most_of w) h.left h.heard u new) (left_told n s turn' told)
+      h.runs in
       record {
         heard = h.heard;
         left = h.left;
-        takes = λ is wide. record {
+        takes = λ there_is wide. record {
           ok = h.takes.ok;
           takes = subst (λ (t : TurnState). TakesAnswer guest t.asked there given m.board
               h.takes.ok h.heard) was h.takes.takes;
@@ -225,18 +234,25 @@ module _ (m : MachineState) (guest : ℕ) where
         };
         begins = subst (λ (t : TurnState). Begins guest (stand_of t) m.board h.left h.heard) was
             h.begins;
-        runs = subst (λ t. Runs guest h.left h.heard (left_of s.what s.at s.len t) new) set
-            (subst (λ u. Runs guest h.left h.heard u new) (left_told n s turn' told) h.runs);
-        needs = needs_of guest (length given) m m' w bytes h.left h.heard setup n s told
-            (subst (λ t. NeedsTold guest (most_of w) h.left h.heard t bytes new n) set
-            (subst (λ k. NeedsTold guest k h.left h.heard turn' bytes new n) limit h.needs))
-            (λ again. subst (λ t. IsBusy guest h.left h.heard (stand_of t) new) set
-            (h.busy again));
-        limit = subst (λ o. LimitIn guest o m m') (sym setup)
-            (subst (λ k. KeepsLimit guest k m.board.rest new.rest) limit capped);
+        runs = subst (λ k. Runs guest k h.left h.heard
+            (left_of s.what s.at s.len (turn_of m' guest)) new) as_set
+            (subst (λ t. Runs guest (most_of w) h.left h.heard
+            (left_of s.what s.at s.len t) new) set
+            runs);
+        needs = subst (λ k. NeedsOf guest k (length given) s.what s bytes h.left h.heard m m')
+            as_set
+            (needs_of guest (length given) m m' w bytes h.left h.heard setup n s told
+            (subst (λ t. NeedsTold guest (most_of w) h.left h.heard t bytes new n) set h.needs)
+            (λ again. subst (λ t. IsBusy guest (most_of w) h.left h.heard (stand_of t) new) set
+            (h.busy again)));
+        limit = subst (λ k. KeepsLimit guest k m.board.rest new.rest) as_set
+            (limit_twice guest (most_of w) m.board.rest h.heard.rest new.rest
+            (limit_same guest (most_of w) m.board.rest h.heard.rest
+            (answered_rest guest turn.asked there given h.takes.ok m.board h.heard h.takes.takes))
+            (runs_limit guest (most_of w) h.left _ h.heard new runs));
         sync = sync;
         waiting = waiting;
         quiet = quiet_told n s told;
         absent = λ gone. absurd (let no = sym has ∙ gone in cc);
-        short = λ is less. absurd (omega (arith, room, less));
+        short = λ there_is less. absurd (omega (arith, room, less));
       }

@@ -153,26 +153,27 @@ module _ (guest : ℕ) where
   step_whole step.Settle answer a b share does =
       settle_whole (board_of a) (board_of b) answer _ does
 
-  pub runs_whole : (s t : Stand) (a b : Boards) → Runs guest s a t b → FailsNone a.rest b.rest
-  runs_whole s t a b (Still r d) = whole_same d.rest d.rest refl
-  runs_whole s t a b (Then q r x y z o answer runs share makes) =
-      whole_twice x.rest y.rest z.rest (runs_whole q r x y runs)
+  pub runs_whole : (most : ℕ) (s t : Stand) (a b : Boards) → Runs guest most s a t b
+      → FailsNone a.rest b.rest
+  runs_whole most s t a b (Still r d) = whole_same d.rest d.rest refl
+  runs_whole most s t a b (Then q r x y z o answer runs share makes) =
+      whole_twice x.rest y.rest z.rest (runs_whole most q r x y runs)
       (step_whole o answer y z share makes.steps.does)
-  runs_whole s t a b (Pops q r x y z answer runs pops) =
-      whole_twice x.rest y.rest z.rest (runs_whole q (standing [] true) x y runs)
+  runs_whole most s t a b (Pops q r x y z answer runs pops) =
+      whole_twice x.rest y.rest z.rest (runs_whole most q (standing [] true) x y runs)
       (pop_whole (board_of y) (board_of z) answer guest _ _ pops.makes.steps.does)
-  runs_whole s t a b (Hands q r x y z runs hands) =
-      whole_twice x.rest y.rest z.rest (runs_whole q (standing [] true) x y runs)
+  runs_whole most s t a b (Hands q r x y z runs hands) =
+      whole_twice x.rest y.rest z.rest (runs_whole most q (standing [] true) x y runs)
       (whole_same y.rest z.rest (ap (λ b. b.rest.store) hands.hands.after))
-  runs_whole s t a b (LearnsOf q r g h x y z none runs knows) =
-      whole_twice x.rest y.rest z.rest (runs_whole q (standing r g) x y runs)
+  runs_whole most s t a b (LearnsOf q r g h x y z none runs knows) =
+      whole_twice x.rest y.rest z.rest (runs_whole most q (standing r g) x y runs)
       (whole_same y.rest z.rest (ap (λ b. b.rest.store) knows.after))
-  runs_whole s t a b (GivesUp q r g x y runs) = runs_whole q (standing r g) x y runs
-  runs_whole s t a b (Calls q r x y z runs notified) =
-      whole_twice x.rest y.rest z.rest (runs_whole q (standing r true) x y runs)
+  runs_whole most s t a b (GivesUp q r g x y runs) = runs_whole most q (standing r g) x y runs
+  runs_whole most s t a b (Calls q r x y z runs notified) =
+      whole_twice x.rest y.rest z.rest (runs_whole most q (standing r true) x y runs)
       (whole_same y.rest z.rest (ap (λ b. b.rest.store) notified.after))
-  runs_whole s t a b (Voids q r g x y z runs why refuses) =
-      whole_twice x.rest y.rest z.rest (runs_whole q (standing r g) x y runs)
+  runs_whole most s t a b (Voids q r g x y z runs why refuses) =
+      whole_twice x.rest y.rest z.rest (runs_whole most q (standing r g) x y runs)
       (whole_same y.rest z.rest (ap (λ b. b.rest.store) refuses.after))
 
   pub begins_whole : (s t : Stand) (a b : Boards) → Begins guest s a t b

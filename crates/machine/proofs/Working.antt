@@ -35,14 +35,15 @@ small_number k n is small = omega (arith, is, small)
 
 module _ (n : ℕ) (a b d : Boards)
     (moves : Moves outbox_state OutboxMakes (board_of a) (board_of b)) where
-  works_now : ((s : Stand) → DoesSome (n % 65536) s b s d) → WorksTo (n + 1) a d
+  works_now : ((most : ℕ) (s : Stand) → DoesSome (n % 65536) most s b s d) → WorksTo (n + 1) a d
   works_now does = inl (record {
     guest = n % 65536;
+    most = 0;
     stand = standing [] false;
     begins = b;
     ends = d;
     before = moves;
-    does = does (standing [] false);
+    does = does 0 (standing [] false);
     behind = moves_none outbox_state OutboxMakes (board_of d);
   })
 
@@ -50,6 +51,7 @@ module _ (n : ℕ) (a b d : Boards)
       → WorksTo (n + 1) a d
   works_before same handed (inl works) = inl (record {
     guest = works.guest;
+    most = works.most;
     stand = works.stand;
     begins = works.begins;
     ends = works.ends;
@@ -67,9 +69,9 @@ module _ (n : ℕ) (a b d : Boards)
   )
 
   pub works_more : (more r : Bool) → more ≡ r
-      → (more ≡ true → (s : Stand) → DoesSome (n % 65536) s b s d)
+      → (more ≡ true → (most : ℕ) (s : Stand) → DoesSome (n % 65536) most s b s d)
       → (more ≡ false → IsHandedOn (n % 65536) d.rest)
-      → ((s : Stand) → DoesSome (n % 65536) s b s d) ⊎ (board_of d ≡ board_of b)
+      → ((most : ℕ) (s : Stand) → DoesSome (n % 65536) most s b s d) ⊎ (board_of d ≡ board_of b)
       → WorksTo n a b → WorksTo (n + 1) a d
   works_more more true is did done either works = works_now (did is)
   works_more more false is did done (inl does) works = works_now does

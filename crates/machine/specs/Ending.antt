@@ -20,7 +20,7 @@ use Rattle.board.specs.declared.step.StepFault.{StepFault}
 use Rattle.board.specs.declared.step.StepFault.TheVariants as step_fault
 use Rattle.chains.specs.declared.range.Range.{Range}
 use Rattle.machine.specs.Serving.{AsksIn, Boards, DoesMany, DoesSome, HasNoReply, HasStopped}
-use Rattle.machine.specs.Serving.{KeepsLimit, Makes, PopsOne, RefusesIn, Runs, is_write, standing}
+use Rattle.machine.specs.Serving.{Makes, PopsOne, RefusesIn, Runs, is_write, standing}
 use Rattle.board.specs.declared.step.Seen.TheVariants.{Nothing}
 use Rattle.machine.specs.declared.fault.MachineFault.{MachineFault}
 use Rattle.machine.specs.declared.fault.MachineFault.TheVariants as fault
@@ -42,13 +42,13 @@ pub record FindsNone (guest : ℕ) (b : Boards) : Type 0 where
 -- One of these steps was a pop of the guest's device, which looked for a chain, by a copy of what
 -- says whether one is available (`SeesAs`), and found none. A step of the device is begun without
 -- copies, so this one was told in that step.
-pub record Looks (guest : ℕ) (s : Stand) (a : Boards) (v : Stand) (b : Boards) : Type 0 where
+pub record Looks (guest most : ℕ) (s : Stand) (a : Boards) (v : Stand) (b : Boards) : Type 0 where
   pub before : Boards
-  pub first : Runs guest s a (standing [] true) before
+  pub first : Runs guest most s a (standing [] true) before
   pub parts : List Range
   pub after : Boards
-  pub pops : PopsOne guest (Ok Nothing) before parts after
-  pub rest : Runs guest (standing parts false) after v b
+  pub pops : PopsOne guest most (Ok Nothing) before parts after
+  pub rest : Runs guest most (standing parts false) after v b
 
 -- whether the driver is to be notified was seen behind all that its queue used
 abbrev pub SawAll : AskingState → Type 0
@@ -85,7 +85,7 @@ pub record IsSettled (guest : ℕ) (b : Boards) : Type 0 where
 -- none is available, or as many wait for their answers as may; and nothing is left to be done.
 pub record RestsAt (guest most : ℕ) (s : Stand) (a : Boards) (v : Stand) (b : Boards) : Type 0 where
   pub jobs : HasNoJob guest b.rest
-  pub taken : (FindsNone guest b × Looks guest s a v b)
+  pub taken : (FindsNone guest b × Looks guest most s a v b)
       ⊎ (nat_lt (waiting guest b.rest) most ≡ false)
   pub settled : IsSettled guest b
 
@@ -104,15 +104,16 @@ reason_of (step_fault.Store e) = fault.DiskFault
 -- Among the guest's steps from one board to the other a pop of its device was refused, or the book
 -- refused a chain, and the fault is that step's; or memory was refused for what a step is to copy
 -- out, or for what was told.
-pub data HasReason (guest : ℕ) (f : MachineFault) (s : Stand) (a : Boards) (v : Stand) (d : Boards)
-    : Type 0 where
-  PopRefused : (b c : Boards) (e : StepFault) → Runs guest s a (standing [] true) b
-      → Makes (step.Pop guest) (Err e) b c → f ≡ reason_of e → Runs guest (standing [] false) c v d
-      → HasReason guest f s a v d
-  BookRefused : (t : Stand) (b c : Boards) (e : StepFault) → Runs guest s a t b
-      → Makes (step.Submit guest) (Err e) b c → f ≡ reason_of e → Runs guest t c v d
-      → HasReason guest f s a v d
-  Lacks : f ≡ fault.NoMemory → HasReason guest f s a v d
+pub data HasReason (guest most : ℕ) (f : MachineFault) (s : Stand) (a : Boards) (v : Stand)
+    (d : Boards) : Type 0 where
+  PopRefused : (b c : Boards) (e : StepFault) → Runs guest most s a (standing [] true) b
+      → Makes (step.Pop guest) (Err e) b c → f ≡ reason_of e
+      → Runs guest most (standing [] false) c v d
+      → HasReason guest most f s a v d
+  BookRefused : (t : Stand) (b c : Boards) (e : StepFault) → Runs guest most s a t b
+      → Makes (step.Submit guest) (Err e) b c → f ≡ reason_of e → Runs guest most t c v d
+      → HasReason guest most f s a v d
+  Lacks : f ≡ fault.NoMemory → HasReason guest most f s a v d
 
 -- No more of the guest's chains is taken, behind these steps: none lies without its answer, and it
 -- was looked, and none is available, or as many wait for their answers as may. Or for a reason.
@@ -120,8 +121,9 @@ abbrev pub HasEnded : (guest most : ℕ) → Stand → Boards → Stand → Boar
     → Type 0
 HasEnded guest most s a v b None =
     HasNoJob guest b.rest
-    × ((FindsNone guest b × Looks guest s a v b) ⊎ (nat_lt (waiting guest b.rest) most ≡ false))
-HasEnded guest most s a v b (Some f) = HasReason guest f s a v b
+    × ((FindsNone guest b × Looks guest most s a v b)
+    ⊎ (nat_lt (waiting guest b.rest) most ≡ false))
+HasEnded guest most s a v b (Some f) = HasReason guest most f s a v b
 
 -- what became of the next chain, and of what is to be copied out
 abbrev pub IsTaken : (guest most : ℕ) → Stand → Boards → TurnState → Boards → Taken → Type 0
@@ -133,13 +135,20 @@ IsTaken guest most s a turn b (taken.Refused f) =
     HasEnded guest most s a (stand_of turn) b (Some f) × (turn.parts ≡ [])
 
 -- something was done, or what a pop wrote that found no chain is to be copied out
-abbrev pub TookSome : ℕ → Stand → Boards → TurnState → Boards → Type 0
-TookSome guest s a turn b = DoesSome guest s a (stand_of turn) b ⊎ (turn.parts ≢ [])
+abbrev pub TookSome : (guest most : ℕ) → Stand → Boards → TurnState → Boards → Type 0
+TookSome guest most s a turn b = DoesSome guest most s a (stand_of turn) b ⊎ (turn.parts ≢ [])
+
+-- What these steps did for the next chain; where it is told that something was done, something was.
+pub record TakesOne (guest most : ℕ) (s : Stand) (a : Boards) (turn : TurnState) (b : Boards)
+    (t : Taken) : Type 0 where
+  pub runs : Runs guest most s a (stand_of turn) b
+  pub became : IsTaken guest most s a turn b t
+  pub did : t ≡ taken.Did → TookSome guest most s a turn b
 
 -- For a reason no more is taken, and unless that is want of memory nothing else is left to be done.
-pub record EndsFor (guest : ℕ) (f : MachineFault) (s : Stand) (a : Boards) (turn : TurnState)
+pub record EndsFor (guest most : ℕ) (f : MachineFault) (s : Stand) (a : Boards) (turn : TurnState)
     (b : Boards) : Type 0 where
-  pub reason : HasReason guest f s a (stand_of turn) b
+  pub reason : HasReason guest most f s a (stand_of turn) b
   pub settled : f ≢ fault.NoMemory → IsSettled guest b × (turn.parts ≡ [])
 
 -- What is needed next, behind these steps: the bytes that its device asks for; that a part is
@@ -153,7 +162,7 @@ NeedsNext guest most s a turn b (Some (next.Write part)) = Unit {0}
 NeedsNext guest most s a turn b (Some next.Call) = Unit {0}
 NeedsNext guest most s a turn b (Some (next.Rest None)) =
     RestsAt guest most s a (stand_of turn) b × (turn.parts ≡ [])
-NeedsNext guest most s a turn b (Some (next.Rest (Some f))) = EndsFor guest f s a turn b
+NeedsNext guest most s a turn b (Some (next.Rest (Some f))) = EndsFor guest most f s a turn b
 
 -- Where the guest's steps stand behind a move that needs this: the part that is to be copied out
 -- isn't in its memory yet, and of a notification that is due nobody was told.
@@ -182,26 +191,26 @@ pub record AwaitsRoom (b : BoardState OutboxState) : Type 0 where
 
 -- Why a serve is to be called again: it did 16 things, a write waits for room, or it stopped the
 -- guest's device.
-abbrev pub IsBusy : ℕ → Stand → Boards → Stand → Boards → Type 0
-IsBusy guest s a t b =
-    DoesMany guest 16 s a t b ⊎ (AwaitsRoom b.rest ⊎ HasStopped guest s a t b)
+abbrev pub IsBusy : (guest most : ℕ) → Stand → Boards → Stand → Boards → Type 0
+IsBusy guest most s a t b =
+    DoesMany guest most 16 s a t b ⊎ (AwaitsRoom b.rest ⊎ HasStopped guest most s a t b)
 
 -- Where a move needs nothing it did something; where the serve is to be called again it is busy.
-abbrev pub GoesOnFor : ℕ → Stand → Boards → TurnState → Boards → Option Next → Type 0
-GoesOnFor guest s a turn b None = DoesSome guest s a (stand_of turn) b
-GoesOnFor guest s a turn b (Some next.Again) = IsBusy guest s a (stand_of turn) b
-GoesOnFor guest s a turn b (Some (next.Read ask)) = Unit {0}
-GoesOnFor guest s a turn b (Some (next.Write part)) = Unit {0}
-GoesOnFor guest s a turn b (Some next.Call) = Unit {0}
-GoesOnFor guest s a turn b (Some (next.Rest f)) = Unit {0}
+abbrev pub GoesOnFor : (guest most : ℕ) → Stand → Boards → TurnState → Boards → Option Next
+    → Type 0
+GoesOnFor guest most s a turn b None = DoesSome guest most s a (stand_of turn) b
+GoesOnFor guest most s a turn b (Some next.Again) = IsBusy guest most s a (stand_of turn) b
+GoesOnFor guest most s a turn b (Some (next.Read ask)) = Unit {0}
+GoesOnFor guest most s a turn b (Some (next.Write part)) = Unit {0}
+GoesOnFor guest most s a turn b (Some next.Call) = Unit {0}
+GoesOnFor guest most s a turn b (Some (next.Rest f)) = Unit {0}
 
 -- A move of a serve that began here, and what it needs next.
 pub record Went (guest most : ℕ) (s : Stand) (a : Boards) (turn turn' : TurnState)
     (old new : Boards) (n : Option Next) : Type 0 where
-  pub runs : Runs guest (stand_of turn) old (left_by n turn') new
+  pub runs : Runs guest most (stand_of turn) old (left_by n turn') new
   pub needs : NeedsNext guest most s a turn' new n
-  pub busy : GoesOnFor guest (stand_of turn) old turn' new n
-  pub limit : KeepsLimit guest most old.rest new.rest
+  pub busy : GoesOnFor guest most (stand_of turn) old turn' new n
   pub count : length new.devices ≡ length old.devices
   pub asked : turn'.asked ≡ turn.asked
 
@@ -219,7 +228,7 @@ NeedsTold guest most s a turn bytes new (next.Write part) =
 NeedsTold guest most s a turn bytes new next.Call = Unit {0}
 NeedsTold guest most s a turn bytes new (next.Rest None) =
     RestsAt guest most s a (stand_of turn) new × (turn.parts ≡ [])
-NeedsTold guest most s a turn bytes new (next.Rest (Some f)) = EndsFor guest f s a turn new
+NeedsTold guest most s a turn bytes new (next.Rest (Some f)) = EndsFor guest most f s a turn new
 
 -- The guest's device was told these bytes, and nothing else changed.
 pub record TellsIn (guest at : ℕ) (bytes : List ℕ) (old new : Boards) : Type 0 where
@@ -275,12 +284,12 @@ pub record HearsAnswer (guest most : ℕ) (a : Asked) (there : Bool) (given : Li
   pub left : Stand
   pub takes : HasHeard guest a there given old heard (n ≡ next.Rest (Some fault.NoMemory))
   pub begins : Begins guest s old left heard
-  pub runs : Runs guest left heard (left_by (Some n) turn) new
+  pub runs : Runs guest most left heard (left_by (Some n) turn) new
   pub needs : NeedsTold guest most left heard turn bytes new n
-  pub busy : n ≡ next.Again → IsBusy guest left heard (stand_of turn) new
+  pub busy : n ≡ next.Again → IsBusy guest most left heard (stand_of turn) new
 
 -- it was refused, for a reason
 pub record IsRefused (guest : ℕ) (t : Taken) (a b : Boards) : Type 0 where
   pub why : MachineFault
   pub is : t ≡ taken.Refused why
-  pub reason : (s : Stand) → HasReason guest why s a s b
+  pub reason : (most : ℕ) (s : Stand) → HasReason guest most why s a s b

@@ -3,6 +3,7 @@ pub mod Machine
 pub mod Opening
 pub mod Serving
 pub mod Settings
+pub mod Remaining
 pub mod Resting
 pub mod Starting
 pub mod State

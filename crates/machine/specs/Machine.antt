@@ -145,6 +145,12 @@ pub record WritesOf (guest at len : ℕ) (bytes : List ℕ) (new : MachineState)
       take len bytes ≡ bytes_at d.device.memory at len)
   pub noted : (turn_of new guest).asked ≡ asked.Write
 
+-- how many chains of a guest that is set up so may wait for their answers; none of one that there
+-- isn't
+abbrev pub most_in : Option Setup → ℕ
+most_in None = 0
+most_in (Some s) = most_of s
+
 -- the guest rests, by how many of its chains may wait, and nothing of it is to be copied out
 abbrev pub RestsIn : ℕ → Option Setup → Stand → Boards → MachineState → Type 0
 RestsIn guest None left heard m = ⊥
@@ -154,26 +160,26 @@ RestsIn guest (Some s) left heard m =
 
 -- Why a serve tells a fault: there is no such guest, or too little room, or a reason in its steps;
 -- unless that is want of memory nothing else is left to be done.
-pub data HasFault (guest room : ℕ) (f : MachineFault) (left : Stand) (heard : Boards)
+pub data HasFault (guest most room : ℕ) (f : MachineFault) (left : Stand) (heard : Boards)
     (old new : MachineState) : Type 0 where
   NoSuchGuest : f ≡ fault.NoGuest → has_guest old guest ≡ false → new ≡ old
-      → HasFault guest room f left heard old new
+      → HasFault guest most room f left heard old new
   NoRoom : f ≡ fault.OutOfRange → room < 16384 → new ≡ old
-      → HasFault guest room f left heard old new
-  OfSteps : EndsFor guest f left heard (turn_of new guest) new.board
-      → HasFault guest room f left heard old new
+      → HasFault guest most room f left heard old new
+  OfSteps : EndsFor guest most f left heard (turn_of new guest) new.board
+      → HasFault guest most room f left heard old new
 
 -- what it needs next, behind its steps from this board on
-abbrev pub NeedsOf : (guest room : ℕ) → What → Served → List ℕ → Stand → Boards → MachineState
+abbrev pub NeedsOf : (guest most room : ℕ) → What → Served → List ℕ → Stand → Boards → MachineState
     → MachineState → Type 0
-NeedsOf guest room what.Rest s bytes left heard old new =
+NeedsOf guest most room what.Rest s bytes left heard old new =
     (s.fault ≡ None → RestsIn guest (slice_get old.setups guest) left heard new)
-    × ((f : MachineFault) → s.fault ≡ Some f → HasFault guest room f left heard old new)
-NeedsOf guest room what.Read s bytes left heard old new = ReadsOf guest s.at s.len new
-NeedsOf guest room what.Write s bytes left heard old new = WritesOf guest s.at s.len bytes new
-NeedsOf guest room what.Call s bytes left heard old new = Unit {0}
-NeedsOf guest room what.Again s bytes left heard old new =
-    IsBusy guest left heard (stand_of (turn_of new guest)) new.board
+    × ((f : MachineFault) → s.fault ≡ Some f → HasFault guest most room f left heard old new)
+NeedsOf guest most room what.Read s bytes left heard old new = ReadsOf guest s.at s.len new
+NeedsOf guest most room what.Write s bytes left heard old new = WritesOf guest s.at s.len bytes new
+NeedsOf guest most room what.Call s bytes left heard old new = Unit {0}
+NeedsOf guest most room what.Again s bytes left heard old new =
+    IsBusy guest most left heard (stand_of (turn_of new guest)) new.board
 
 -- Where the guest's steps stand behind a serve that tells this: a part that is to be written isn't in
 -- its memory yet, and comes before all that is left; and its driver is notified where that is told,
@@ -193,11 +199,6 @@ is_over what.Write = false
 is_over what.Call = false
 is_over what.Again = false
 
--- no more of the guest's chains wait for their answers than before, or than may
-abbrev pub LimitIn : ℕ → Option Setup → MachineState → MachineState → Type 0
-LimitIn guest None old new = Unit {0}
-LimitIn guest (Some s) old new = KeepsLimit guest (most_of s) old.board.rest new.board.rest
-
 -- It is refused for this, at once, and nothing changes.
 pub record IsRefusedFor (f : MachineFault) (given : List ℕ) (s : Served) (bytes : List ℕ)
     (old new : MachineState) : Type 0 where
@@ -216,9 +217,12 @@ pub record TellsOf (guest : ℕ) (there : Bool) (given : List ℕ) (s : Served) 
       → HasHeard guest (turn_of old guest).asked there given old.board heard
       (s.fault ≡ Some fault.NoMemory)
   pub begins : Begins guest (stand_of (turn_of old guest)) old.board left heard
-  pub runs : Runs guest left heard (left_of s.what s.at s.len (turn_of new guest)) new.board
-  pub needs : NeedsOf guest (length given) s.what s bytes left heard old new
-  pub limit : LimitIn guest (slice_get old.setups guest) old new
+  pub runs : Runs guest (most_in (slice_get old.setups guest)) left heard
+      (left_of s.what s.at s.len (turn_of new guest)) new.board
+  pub needs : NeedsOf guest (most_in (slice_get old.setups guest)) (length given) s.what s bytes
+      left heard old new
+  -- no more of its chains wait for their answers than before, or than may
+  pub limit : KeepsLimit guest (most_in (slice_get old.setups guest)) old.board.rest new.board.rest
   pub sync : s.sync ≡ (is_over s.what && waits_for_sync new.board.rest)
   pub waiting : s.waiting ≡ owes guest new.board.rest
   -- a fault is told only where the serve is over
@@ -241,11 +245,12 @@ IsTold (next.Rest f) s = (s.what ≡ what.Rest) × (s.fault ≡ f)
 -- On the way from one board to the other something was done among the steps of a guest.
 pub record Works (old new : Boards) : Type 0 where
   pub guest : ℕ
+  pub most : ℕ
   pub stand : Stand
   pub begins : Boards
   pub ends : Boards
   pub before : Moves outbox_state OutboxMakes (board_of old) (board_of begins)
-  pub does : DoesSome guest stand begins stand ends
+  pub does : DoesSome guest most stand begins stand ends
   pub behind : Moves outbox_state OutboxMakes (board_of ends) (board_of new)
 
 -- The disk's work went further, by steps of its own and of each guest's: something was done, or all

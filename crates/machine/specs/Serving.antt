@@ -1,7 +1,7 @@
 -- What serving a guest does to a board, in steps, and what it leaves of the other guests.
 use Rattle.std.specs.Prelude.{◌≡◌, ◌≢◌, ◌⊎◌, ◌<◌, ◌≤◌, ◌+◌, ◌^◌, ◌-◌, ℕ, Bool, List, [], slice_get}
 use Rattle.std.specs.Prelude.{slice_set, Some, None, Ok, true, false, IfSome, map, length, ◌++◌}
-use Rattle.std.specs.Prelude.{◌∷◌, All, Option}
+use Rattle.std.specs.Prelude.{◌∷◌, All, Option, nat_lt}
 use Rattle.chains.specs.declared.range.Range.{Range}
 use Rattle.disk.specs.Outbox.{has_room}
 use Rattle.disk.specs.OutboxDisk.{OutboxMakes, OutboxState, outbox_state}
@@ -162,14 +162,19 @@ pub record WritesAll (device : AskingState) (answer : Answer) (parts : List Rang
   pub live : device.device.registers.status.driver_ok ≡ true
   pub all : parts ≡ pop_parts device.device
 
--- The guest's device popped: what it wrote is to be copied out, unless it found no chain and that
--- is in guest memory already.
-pub record PopsOne (guest : ℕ) (answer : Answer) (old : Boards) (parts : List Range)
+-- fewer of the guest's chains wait for their answers than may
+abbrev pub MayTake : (guest most : ℕ) → Boards → Type 0
+MayTake guest most b = nat_lt (waiting guest b.rest) most ≡ true
+
+-- The guest's device popped, while fewer of its chains waited for their answers than may: what it
+-- wrote is to be copied out, unless it found no chain and that is in guest memory already.
+pub record PopsOne (guest most : ℕ) (answer : Answer) (old : Boards) (parts : List Range)
     (new : Boards) : Type 0 where
   pub makes : Makes (step.Pop guest) answer old new
   pub device : AskingState
   pub its : slice_get old.devices guest ≡ Some device
   pub empty : slice_get old.rest.jobs guest ≡ Some None
+  pub fewer : MayTake guest most old
   pub parts_are : WritesAll device answer parts ⊎ ((parts ≡ []) × ((answer ≡ Ok Did) → ⊥))
 
 -- A reply was handed to its device: all that this wrote is to be copied out, in its order.
@@ -189,33 +194,36 @@ owing parts = record { parts = parts; going = false; owed = true }
 -- The guest's steps, one after another, from one board to the other, with what is to be copied out
 -- into guest memory before and behind them. A step of its device is made only once it was begun, and
 -- begins only where nothing is left to be copied out: so what it reads was told behind all that the
--- steps before it wrote, and it believes nothing that was told for one of them. No part is left out:
+-- steps before it wrote, and it believes nothing that was told for one of them. It pops only while
+-- fewer of its chains wait for their answers than may. No part is left out:
 -- one goes only where the monitor is told of it, behind these steps, or where the device waits for a
 -- reset.
-pub data Runs (guest : ℕ) : Stand → Boards → Stand → Boards → Type 0 where
-  Still : (s : Stand) (b : Boards) → Runs guest s b s b
+pub data Runs (guest most : ℕ) : Stand → Boards → Stand → Boards → Type 0 where
+  Still : (s : Stand) (b : Boards) → Runs guest most s b s b
   Then : (s t : Stand) (a b c : Boards) (x : Step) (answer : Answer)
-      → Runs guest s a t b → IsShare guest x b → Makes x answer b c → Runs guest s a t c
+      → Runs guest most s a t b → IsShare guest x b → Makes x answer b c → Runs guest most s a t c
   -- the device steps only once all that it wrote before is in guest memory
   Pops : (s : Stand) (qs : List Range) (a b c : Boards) (answer : Answer)
-      → Runs guest s a (standing [] true) b → PopsOne guest answer b qs c
-      → Runs guest s a (standing qs false) c
+      → Runs guest most s a (standing [] true) b → PopsOne guest most answer b qs c
+      → Runs guest most s a (standing qs false) c
   Hands : (s : Stand) (qs : List Range) (a b c : Boards)
-      → Runs guest s a (standing [] true) b → HandsOne guest b qs c
-      → Runs guest s a (standing qs false) c
+      → Runs guest most s a (standing [] true) b → HandsOne guest b qs c
+      → Runs guest most s a (standing qs false) c
   LearnsOf : (s : Stand) (qs : List Range) (g h : Bool) (a b c : Boards)
       → (g ≡ false → h ≡ true → qs ≡ [])
-      → Runs guest s a (standing qs g) b → Knows guest g b h c → Runs guest s a (standing qs h) c
+      → Runs guest most s a (standing qs g) b → Knows guest g b h c
+      → Runs guest most s a (standing qs h) c
   -- a step that was begun is given up
   GivesUp : (s : Stand) (qs : List Range) (g : Bool) (a b : Boards)
-      → Runs guest s a (standing qs g) b → Runs guest s a (standing qs false) b
+      → Runs guest most s a (standing qs g) b → Runs guest most s a (standing qs false) b
   -- a notification is due: the monitor is told of it
   Calls : (s : Stand) (qs : List Range) (a b c : Boards)
-      → Runs guest s a (standing qs true) b → Notified guest b c → Runs guest s a (owing qs) c
+      → Runs guest most s a (standing qs true) b → Notified guest b c
+      → Runs guest most s a (owing qs) c
   -- it can't go on: the device waits for a reset, and what is left is void
   Voids : (s : Stand) (qs : List Range) (g : Bool) (a b c : Boards)
-      → Runs guest s a (standing qs g) b → CantGoOn guest qs b → RefusesIn guest b c
-      → Runs guest s a (standing [] g) c
+      → Runs guest most s a (standing qs g) b → CantGoOn guest qs b → RefusesIn guest b c
+      → Runs guest most s a (standing [] g) c
 
 -- a step did what it is for; or a call of the disk failed, by which the store breaks
 abbrev pub IsDone : Step → Answer → Type 0
@@ -223,30 +231,32 @@ IsDone x answer = (answer ≡ Ok Did) ⊎ ((x ≡ step.Advance) × (answer ≢ O
 
 -- Something was done among such steps: one of them did what it is for, or broke the store; a chain
 -- was popped; or a reply was handed to its device.
-pub data DoesSome (guest : ℕ) : Stand → Boards → Stand → Boards → Type 0 where
+pub data DoesSome (guest most : ℕ) : Stand → Boards → Stand → Boards → Type 0 where
   ByStep : (s t u : Stand) (a b c d : Boards) (x : Step) (answer : Answer)
-      → Runs guest s a t b → IsShare guest x b → Makes x answer b c → IsDone x answer
-      → Runs guest t c u d → DoesSome guest s a u d
+      → Runs guest most s a t b → IsShare guest x b → Makes x answer b c → IsDone x answer
+      → Runs guest most t c u d → DoesSome guest most s a u d
   ByPop : (s u : Stand) (qs : List Range) (a b c d : Boards) (answer : Answer)
-      → Runs guest s a (standing [] true) b → PopsOne guest answer b qs c → answer ≡ Ok Did
-      → Runs guest (standing qs false) c u d → DoesSome guest s a u d
+      → Runs guest most s a (standing [] true) b → PopsOne guest most answer b qs c
+      → answer ≡ Ok Did → Runs guest most (standing qs false) c u d → DoesSome guest most s a u d
   ByReply : (s u : Stand) (qs : List Range) (a b c d : Boards)
-      → Runs guest s a (standing [] true) b → HandsOne guest b qs c
-      → Runs guest (standing qs false) c u d → DoesSome guest s a u d
+      → Runs guest most s a (standing [] true) b → HandsOne guest b qs c
+      → Runs guest most (standing qs false) c u d → DoesSome guest most s a u d
 
 -- So many things were done among such steps, one behind the other.
-pub data DoesMany (guest : ℕ) : ℕ → Stand → Boards → Stand → Boards → Type 0 where
-  DoesNone : (n : ℕ) (s t : Stand) (a b : Boards) → n ≡ 0 → Runs guest s a t b
-      → DoesMany guest n s a t b
+pub data DoesMany (guest most : ℕ) : ℕ → Stand → Boards → Stand → Boards → Type 0 where
+  DoesNone : (n : ℕ) (s t : Stand) (a b : Boards) → n ≡ 0 → Runs guest most s a t b
+      → DoesMany guest most n s a t b
   DoesMore : (m n : ℕ) (s t u : Stand) (a b c : Boards) → m ≡ n + 1
-      → DoesMany guest n s a t b → DoesSome guest t b u c → DoesMany guest m s a u c
+      → DoesMany guest most n s a t b → DoesSome guest most t b u c
+      → DoesMany guest most m s a u c
 
 -- Last of all the guest's device was stopped, which can't go on, and didn't wait for a reset yet.
-pub record HasStopped (guest : ℕ) (s : Stand) (a : Boards) (t : Stand) (b : Boards) : Type 0 where
+pub record HasStopped (guest most : ℕ) (s : Stand) (a : Boards) (t : Stand) (b : Boards)
+    : Type 0 where
   pub before : Boards
   pub parts : List Range
   pub going : Bool
-  pub runs : Runs guest s a (standing parts going) before
+  pub runs : Runs guest most s a (standing parts going) before
   pub went_on : IsGoing guest before
   pub why : CantGoOn guest parts before
   pub refuses : RefusesIn guest before b
@@ -284,12 +294,6 @@ KeepsWaiting guest old new = (new.jobs ≡ old.jobs) × (waiting guest new ≡ w
 abbrev pub KeepsLimit : (guest most : ℕ) → BoardState OutboxState → BoardState OutboxState → Type 0
 KeepsLimit guest most old new =
     (waiting guest new ≤ waiting guest old) ⊎ (waiting guest new ≤ most)
-
--- there are as many guests, and no more chains of this one wait
-abbrev pub AddsNone : ℕ → Boards → Boards → Type 0
-AddsNone guest old new =
-    (length new.devices ≡ length old.devices)
-    × (waiting guest new.rest ≤ waiting guest old.rest)
 
 -- no reply of the guest lies between two steps, and the book gives none
 pub record HasNoReply {D : Type 0} (guest : ℕ) (b : BoardState D) : Type 0 where

@@ -1,13 +1,13 @@
 //! What a monitor's answer to the last thing that a serve needed does, and what it is asked next.
 ghost use Rattle.std.specs.Prelude.{◌≡◌, ◌<◌, ◌≤◌, ◌⊎◌, ◌∷◌, [], List, length, take, true, false};
-ghost use Rattle.std.specs.Prelude.{Bool, Err, IfSome, OnErr, OnOk, Some, slice_get};
+ghost use Rattle.std.specs.Prelude.{Bool, Err, IfSome, OnErr, OnOk, Some, slice_get, ℕ};
 ghost use Rattle.chains.specs.declared.range.Range.{Range as Part};
 ghost use Rattle.guest_memory.specs.Memory.{IsHeld, IsInside, bytes_at};
 ghost use Rattle.guest_memory.specs.declared.ask.Ask.{Ask};
 ghost use Rattle.mmio_transport.specs.Asking.{known};
 ghost use Rattle.machine.specs.Ending.{Begins, HearsAnswer, TakesAnswer, TellsIn};
 ghost use Rattle.machine.specs.Ending.{left_by};
-ghost use Rattle.machine.specs.Serving.{AsksIn, HasParts, HasStopped, IsGoing, KeepsLimit};
+ghost use Rattle.machine.specs.Serving.{AsksIn, HasParts, HasStopped, IsGoing};
 ghost use Rattle.machine.specs.Serving.{RefusesIn, Runs};
 ghost use Rattle.machine.specs.Serving.{standing};
 ghost use Rattle.machine.specs.Turn.{stand_of};
@@ -162,14 +162,13 @@ fn need(
     requires asks { (wanted : Ask) → next ≡ Next.Read wanted → AsksIn guest wanted board.old }
     requires copied { (part : Part) → next ≡ Next.Write part
         → HasParts guest (part ∷ []) board.old }
-    ensures runs { Runs guest (left_by (Some next) turn.old) board.old
+    ensures runs { (most : ℕ) → Runs guest most (left_by (Some next) turn.old) board.old
         (left_by (Some result) turn.new) board.new }
     ensures same { (result ≡ next) ⊎ ((result ≡ Next.Rest (Some MachineFault.NoMemory))
-        ⊎ ((result ≡ Next.Again) × HasStopped guest (left_by (Some next) turn.old) board.old
-        (stand_of turn.new) board.new)) }
+        ⊎ ((result ≡ Next.Again) × ((most : ℕ) → HasStopped guest most
+        (left_by (Some next) turn.old) board.old (stand_of turn.new) board.new))) }
     ensures board { result ≡ next
         → (board.new ≡ board.old) × (stand_of turn.new ≡ stand_of turn.old) }
-    ensures rest { board.new.rest ≡ board.old.rest }
     ensures read { (wanted : Ask) → result ≡ Next.Read wanted
         → (wanted.len ≤ 16384) × (turn.new.asked ≡ asked_of.Read wanted) }
     ensures write { (part : Part) → result ≡ Next.Write part
@@ -211,7 +210,6 @@ pub(crate) fn serve_turn(
     requires copied { HasParts guest turn.old.parts board.old }
     ensures heard { HearsAnswer guest most turn.old.asked is_there bytes.old (stand_of turn.old)
         board.old turn.new bytes.new board.new result }
-    ensures limit { KeepsLimit guest most board.old.rest board.new.rest }
 {
     if !answer(board, guest, turn, is_there, bytes) {
         return Next::Rest(Some(MachineFault::NoMemory));

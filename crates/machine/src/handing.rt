@@ -26,11 +26,11 @@ pub(crate) fn has_write(board: &AskingBoard<OutboxDisk>) -> bool
 /// Makes the next call where it is a write, and the outbox has room for the largest. Whether it
 /// was made: a failure is told to the book next.
 fn write_next(board: &mut AskingBoard<OutboxDisk>) -> bool
-    ensures runs { (guest : ℕ) (s : Stand) → Runs guest s board.old s board.new }
+    ensures runs { (guest most : ℕ) (s : Stand) → Runs guest most s board.old s board.new }
     ensures keeps { (guest : ℕ) → KeepsWaiting guest board.old.rest board.new.rest }
     ensures devices { board.new.devices ≡ board.old.devices }
-    ensures made { result ≡ true → (guest : ℕ) (s : Stand)
-        → DoesSome guest s board.old s board.new }
+    ensures made { result ≡ true → (guest most : ℕ) (s : Stand)
+        → DoesSome guest most s board.old s board.new }
     ensures none { result ≡ false → board.old.rest.report ≡ None
         → (board_of board.new ≡ board_of board.old) × HasRoomForNone board.new.rest }
 {
@@ -50,10 +50,11 @@ fn write_next(board: &mut AskingBoard<OutboxDisk>) -> bool
 /// store, up to four requests a record, and makes the disk's next write. Whether there was
 /// something to do.
 fn hand_on(board: &mut AskingBoard<OutboxDisk>, guest: u16) -> bool
-    ensures runs { (s : Stand) → Runs guest s board.old s board.new }
+    ensures runs { (most : ℕ) (s : Stand) → Runs guest most s board.old s board.new }
     ensures keeps { KeepsWaiting guest board.old.rest board.new.rest }
     ensures devices { board.new.devices ≡ board.old.devices }
-    ensures did { result ≡ true → (s : Stand) → DoesSome guest s board.old s board.new }
+    ensures did { result ≡ true
+        → (most : ℕ) (s : Stand) → DoesSome guest most s board.old s board.new }
     ensures done { result ≡ false → IsHandedOn guest board.new.rest }
     ensures same { result ≡ false → board_of board.new ≡ board_of board.old }
 {
@@ -67,12 +68,13 @@ fn hand_on(board: &mut AskingBoard<OutboxDisk>, guest: u16) -> bool
 /// Hands on what was accepted of the guest until nothing of it can be. Whether there may be more,
 /// behind as many steps as writes may wait.
 pub(crate) fn hand_all(board: &mut AskingBoard<OutboxDisk>, guest: u16) -> bool
-    ensures runs { (s : Stand) → Runs guest s board.old s board.new }
+    ensures runs { (most : ℕ) (s : Stand) → Runs guest most s board.old s board.new }
     ensures keeps { KeepsWaiting guest board.old.rest board.new.rest }
     ensures devices { board.new.devices ≡ board.old.devices }
-    ensures did { result ≡ true → (s : Stand) → DoesSome guest s board.old s board.new }
+    ensures did { result ≡ true
+        → (most : ℕ) (s : Stand) → DoesSome guest most s board.old s board.new }
     ensures done { result ≡ false → IsHandedOn guest board.new.rest }
-    ensures either { ((s : Stand) → DoesSome guest s board.old s board.new)
+    ensures either { ((most : ℕ) (s : Stand) → DoesSome guest most s board.old s board.new)
         ⊎ (board_of board.new ≡ board_of board.old) }
 {
     for _step in 1..MOST_WRITES {

@@ -1,12 +1,12 @@
 //! Letting replies leave whose need is settled.
-ghost use Rattle.std.specs.Prelude.{◌≡◌, ◌≢◌, ◌<◌, ◌++◌, [], Bool, List, length, true, false};
+ghost use Rattle.std.specs.Prelude.{◌≡◌, ◌≢◌, ◌<◌, ◌++◌, ℕ, [], Bool, List, length, true, false};
 ghost use Rattle.std.specs.Prelude.{IsSome, slice_get};
 ghost use Rattle.chains.specs.declared.range.Range.{Range as Part};
 ghost use Rattle.guest_memory.specs.declared.ask.Ask.{Ask};
 ghost use Rattle.mmio_transport.specs.Written.{range_in};
 ghost use Rattle.board.specs.Asking.{board_of};
 ghost use Rattle.board.specs.State.{in_place};
-ghost use Rattle.machine.specs.Serving.{AddsNone, AsksIn, DoesSome, HasNoReply, IsNoted};
+ghost use Rattle.machine.specs.Serving.{AsksIn, DoesSome, HasNoReply, IsNoted};
 ghost use Rattle.machine.specs.Serving.{QueuesStay, Runs, SameDevices, standing};
 ghost use Rattle.machine.specs.Turn.{KeepsStage, stand_of, filled_part, filled_parts};
 
@@ -105,8 +105,8 @@ fn tell_zeros(board: &mut AskingBoard<OutboxDisk>, guest: u16, turn: &Turn) -> b
     requires guest { guest < length board.old.devices }
     requires lies { IsSome (in_place (slice_get board.old.rest.dones guest)) }
     requires noted { IsNoted guest turn.now.parts board.old }
-    ensures runs { (ps : List Part) (g : Bool) → Runs guest (standing ps g) board.old (standing ps g)
-        board.new }
+    ensures runs { (most : ℕ) (ps : List Part) (g : Bool)
+        → Runs guest most (standing ps g) board.old (standing ps g) board.new }
     ensures rest { board.new.rest ≡ board.old.rest }
     ensures queues { QueuesStay board.old board.new }
     ensures count { length board.new.devices ≡ length board.old.devices }
@@ -126,7 +126,7 @@ fn prepare(board: &mut AskingBoard<OutboxDisk>, guest: u16, turn: &mut Turn) -> 
     requires parts { turn.old.parts ≡ [] }
     requires guest { guest < length board.old.devices }
     requires lies { IsSome (in_place (slice_get board.old.rest.dones guest)) }
-    ensures runs { Runs guest (standing [] turn.old.going) board.old
+    ensures runs { (most : ℕ) → Runs guest most (standing [] turn.old.going) board.old
         (standing [] turn.new.going) board.new }
     ensures begun { result ≡ true → turn.new.going ≡ true }
     ensures rest { board.new.rest ≡ board.old.rest }
@@ -153,13 +153,14 @@ fn publish(board: &mut AskingBoard<OutboxDisk>, guest: u16, turn: &mut Turn) -> 
     requires lies { IsSome (in_place (slice_get board.old.rest.dones guest)) }
     requires noted { IsNoted guest turn.old.parts board.old }
     requires begun { turn.old.going ≡ true }
-    ensures runs { Runs guest (standing [] true) board.old (stand_of turn.new) board.new }
-    ensures did { result ≡ Left.Did
-        → DoesSome guest (standing [] true) board.old (stand_of turn.new) board.new }
+    ensures runs { (most : ℕ)
+        → Runs guest most (standing [] true) board.old (stand_of turn.new) board.new }
+    ensures did { result ≡ Left.Did → (most : ℕ)
+        → DoesSome guest most (standing [] true) board.old (stand_of turn.new) board.new }
     ensures idle { result ≢ Left.Did → turn.new.parts ≡ [] }
     ensures asks { (ask : Ask) → result ≡ Left.Asks ask → AsksIn guest ask board.new }
     ensures either { (result ≢ Left.Nothing) × (result ≢ Left.NoMemory) }
-    ensures count { AddsNone guest board.old board.new }
+    ensures count { length board.new.devices ≡ length board.old.devices }
     ensures keeps { KeepsStage turn.old turn.new }
 {
     match board.publish(guest) {
@@ -183,16 +184,16 @@ fn publish(board: &mut AskingBoard<OutboxDisk>, guest: u16, turn: &mut Turn) -> 
 pub(crate) fn leave_one(board: &mut AskingBoard<OutboxDisk>, guest: u16, turn: &mut Turn) -> Left
     requires parts { turn.old.parts ≡ [] }
     requires guest { guest < length board.old.devices }
-    ensures runs { Runs guest (standing [] turn.old.going) board.old (stand_of turn.new)
-        board.new }
-    ensures did { result ≡ Left.Did
-        → DoesSome guest (standing [] turn.old.going) board.old (stand_of turn.new) board.new }
+    ensures runs { (most : ℕ) → Runs guest most (standing [] turn.old.going) board.old
+        (stand_of turn.new) board.new }
+    ensures did { result ≡ Left.Did → (most : ℕ)
+        → DoesSome guest most (standing [] turn.old.going) board.old (stand_of turn.new) board.new }
     ensures idle { result ≢ Left.Did → turn.new.parts ≡ [] }
     ensures asks { (ask : Ask) → result ≡ Left.Asks ask → AsksIn guest ask board.new }
     ensures nothing { result ≡ Left.Nothing → HasNoReply guest board.new.rest
         × (board.new.devices ≡ board.old.devices)
         × (board_of board.new ≡ board_of board.old) }
-    ensures count { AddsNone guest board.old board.new }
+    ensures count { length board.new.devices ≡ length board.old.devices }
     ensures keeps { KeepsStage turn.old turn.new }
 {
     board.collect(guest);

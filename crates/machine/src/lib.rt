@@ -7,6 +7,7 @@
 mod answering;
 mod fault;
 mod handing;
+pub mod laws;
 mod leaving;
 mod machine;
 mod opening;

@@ -40,8 +40,8 @@ pub(crate) enum Next {
 fn notify(board: &mut AskingBoard<OutboxDisk>, guest: u16, turn: &mut Turn) -> Option<Next>
     requires guest { guest < length board.old.devices }
     requires parts { turn.old.parts ≡ [] }
-    ensures runs { Runs guest (standing [] turn.old.going) board.old (left_by result turn.new)
-        board.new }
+    ensures runs { (most : ℕ) → Runs guest most (standing [] turn.old.going) board.old
+        (left_by result turn.new) board.new }
     ensures needs { NotifiesNext guest board.new result }
     ensures rest { board.new.rest ≡ board.old.rest }
     ensures none { result ≡ None

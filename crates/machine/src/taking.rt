@@ -1,11 +1,11 @@
 //! Taking what a guest offered: each chain is popped, and answered by the book.
-ghost use Rattle.std.specs.Prelude.{◌≡◌, ◌≢◌, ◌<◌, ◌≤◌, ◌+◌, ◌⊎◌, ◌++◌, ℕ, [], List, length};
+ghost use Rattle.std.specs.Prelude.{◌≡◌, ◌≢◌, ◌<◌, ◌⊎◌, ◌++◌, ℕ, [], List, length};
 ghost use Rattle.std.specs.Prelude.{Bool, false, true, IfSome, IsSome, slice_get};
 ghost use Rattle.chains.specs.declared.range.Range.{Range as Part};
 ghost use Rattle.guest_memory.specs.declared.ask.Ask.{Ask};
-ghost use Rattle.board.specs.State.{HasNoJob, in_place, waiting};
-ghost use Rattle.machine.specs.Ending.{HasSeenAll, IsRefused, IsTaken, TookSome};
-ghost use Rattle.machine.specs.Serving.{DoesSome, HasNoCopy, KeepsLimit, Runs, SameDevices};
+ghost use Rattle.board.specs.State.{HasNoJob, in_place};
+ghost use Rattle.machine.specs.Ending.{HasSeenAll, IsRefused, IsTaken, TakesOne, TookSome};
+ghost use Rattle.machine.specs.Serving.{DoesSome, HasNoCopy, MayTake, Runs, SameDevices};
 ghost use Rattle.machine.specs.Serving.{standing};
 ghost use Rattle.machine.specs.Turn.{KeepsStage, Stand, pop_parts, stand_of};
 
@@ -35,8 +35,8 @@ pub(crate) enum Taken {
 /// Begins a step of the guest's device, where none was begun: what there is a copy of is forgotten.
 pub(crate) fn begin(board: &mut AskingBoard<OutboxDisk>, guest: u16, turn: &mut Turn)
     requires { guest < length board.old.devices }
-    ensures runs { Runs guest (standing [] turn.old.going) board.old (standing [] true)
-        board.new }
+    ensures runs { (most : ℕ)
+        → Runs guest most (standing [] turn.old.going) board.old (standing [] true) board.new }
     ensures rest { board.new.rest ≡ board.old.rest }
     ensures devices { SameDevices board.old board.new }
     ensures count { length board.new.devices ≡ length board.old.devices }
@@ -71,8 +71,8 @@ fn note_event(board: &AskingBoard<OutboxDisk>, guest: u16, turn: &mut Turn) -> b
 /// is no memory for that, it is asked for.
 fn tell_event(board: &mut AskingBoard<OutboxDisk>, guest: u16)
     requires { guest < length board.old.devices }
-    ensures runs { (ps : List Part) (g : Bool) → Runs guest (standing ps g) board.old (standing ps g)
-        board.new }
+    ensures runs { (most : ℕ) (ps : List Part) (g : Bool)
+        → Runs guest most (standing ps g) board.old (standing ps g) board.new }
     ensures rest { board.new.rest ≡ board.old.rest }
     ensures count { length board.new.devices ≡ length board.old.devices }
 {
@@ -88,8 +88,8 @@ fn tell_event(board: &mut AskingBoard<OutboxDisk>, guest: u16)
 /// Begins a pop of the guest's device, where none was begun.
 fn begin_pop(board: &mut AskingBoard<OutboxDisk>, guest: u16, turn: &mut Turn)
     requires { guest < length board.old.devices }
-    ensures runs { Runs guest (standing [] turn.old.going) board.old (standing [] true)
-        board.new }
+    ensures runs { (most : ℕ)
+        → Runs guest most (standing [] turn.old.going) board.old (standing [] true) board.new }
     ensures rest { board.new.rest ≡ board.old.rest }
     ensures count { length board.new.devices ≡ length board.old.devices }
     ensures turn { turn.new ≡ record turn.old { going = true } }
@@ -138,12 +138,12 @@ fn pop(board: &mut AskingBoard<OutboxDisk>, guest: u16, turn: &mut Turn) -> Take
     requires job { HasNoJob guest board.old.rest }
     requires guest { guest < length board.old.devices }
     requires begun { turn.old.going ≡ true }
-    ensures runs { Runs guest (standing [] true) board.old (stand_of turn.new) board.new }
-    ensures taken { (most : ℕ)
+    ensures runs { (most : ℕ) → MayTake guest most board.old
+        → Runs guest most (standing [] true) board.old (stand_of turn.new) board.new }
+    ensures taken { (most : ℕ) → MayTake guest most board.old
         → IsTaken guest most (standing [] true) board.old turn.new board.new result }
-    ensures did { result ≡ Taken.Did
-        → TookSome guest (standing [] true) board.old turn.new board.new }
-    ensures waits { waiting guest board.new.rest ≤ waiting guest board.old.rest + 1 }
+    ensures did { result ≡ Taken.Did → (most : ℕ) → MayTake guest most board.old
+        → TookSome guest most (standing [] true) board.old turn.new board.new }
     ensures count { length board.new.devices ≡ length board.old.devices }
     ensures keeps { KeepsStage turn.old turn.new }
 {
@@ -178,13 +178,8 @@ fn look(board: &mut AskingBoard<OutboxDisk>, guest: u16, turn: &mut Turn) -> Tak
     requires parts { turn.old.parts ≡ [] }
     requires job { HasNoJob guest board.old.rest }
     requires guest { guest < length board.old.devices }
-    ensures runs { Runs guest (standing [] turn.old.going) board.old (stand_of turn.new)
-        board.new }
-    ensures taken { (most : ℕ) → IsTaken guest most (standing [] turn.old.going) board.old turn.new
-        board.new result }
-    ensures did { result ≡ Taken.Did
-        → TookSome guest (standing [] turn.old.going) board.old turn.new board.new }
-    ensures waits { waiting guest board.new.rest ≤ waiting guest board.old.rest + 1 }
+    ensures looks { (most : ℕ) → MayTake guest most board.old
+        → TakesOne guest most (standing [] turn.old.going) board.old turn.new board.new result }
     ensures count { length board.new.devices ≡ length board.old.devices }
     ensures keeps { KeepsStage turn.old turn.new }
 {
@@ -196,10 +191,10 @@ fn look(board: &mut AskingBoard<OutboxDisk>, guest: u16, turn: &mut Turn) -> Tak
 fn submit(board: &mut AskingBoard<OutboxDisk>, guest: u16) -> Taken
     requires guest { guest < length board.old.devices }
     requires job { IsSome (in_place (slice_get board.old.rest.jobs guest)) }
-    ensures runs { (s : Stand) → Runs guest s board.old s board.new }
-    ensures did { result ≡ Taken.Did → (s : Stand) → DoesSome guest s board.old s board.new }
+    ensures runs { (most : ℕ) (s : Stand) → Runs guest most s board.old s board.new }
+    ensures did { result ≡ Taken.Did
+        → (most : ℕ) (s : Stand) → DoesSome guest most s board.old s board.new }
     ensures either { (result ≡ Taken.Did) ⊎ IsRefused guest result board.old board.new }
-    ensures waits { waiting guest board.new.rest ≤ waiting guest board.old.rest }
     ensures devices { board.new.devices ≡ board.old.devices }
 {
     board.what_always_holds();
@@ -219,13 +214,8 @@ pub(crate) fn take_one(
 ) -> Taken
     requires parts { turn.old.parts ≡ [] }
     requires guest { guest < length board.old.devices }
-    ensures runs { Runs guest (standing [] turn.old.going) board.old (stand_of turn.new)
-        board.new }
-    ensures taken { IsTaken guest most (standing [] turn.old.going) board.old turn.new board.new
+    ensures takes { TakesOne guest most (standing [] turn.old.going) board.old turn.new board.new
         result }
-    ensures did { result ≡ Taken.Did
-        → TookSome guest (standing [] turn.old.going) board.old turn.new board.new }
-    ensures limit { KeepsLimit guest most board.old.rest board.new.rest }
     ensures count { length board.new.devices ≡ length board.old.devices }
     ensures keeps { KeepsStage turn.old turn.new }
 {

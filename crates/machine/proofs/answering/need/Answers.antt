@@ -27,22 +27,23 @@ module _ (guest : ℕ) (n r : Next) (t t' : TurnState) (ps : List Range) (a b : 
     | inr memory ↦ ap (λ x. left_by (Some x) t') memory ∙ ap stand_of turn
   ]
 
-  given_runs : Runs guest (left_by (Some n) t) a (left_by (Some r) t') b
-  given_runs =
-      subst (λ s. Runs guest s a (left_by (Some r) t') b) (sym from)
-      (subst (λ s. Runs guest (standing ps t.going) a s b) (sym left_given)
+  given_runs : (most : ℕ) → Runs guest most (left_by (Some n) t) a (left_by (Some r) t') b
+  given_runs most =
+      subst (λ s. Runs guest most s a (left_by (Some r) t') b) (sym from)
+      (subst (λ s. Runs guest most (standing ps t.going) a s b) (sym left_given)
       (Voids (standing ps t.going) ps t.going a a b (Still (standing ps t.going) a) why refuses))
 
   given_up : (r ≡ n) ⊎ ((r ≡ next.Rest (Some fault.NoMemory))
-      ⊎ ((r ≡ next.Again) × HasStopped guest (left_by (Some n) t) a (stand_of t') b))
+      ⊎ ((r ≡ next.Again)
+      × ((most : ℕ) → HasStopped guest most (left_by (Some n) t) a (stand_of t') b)))
   given_up = elim either [
     | inl again ↦ inr (inr (
       again.0,
-      record {
+      λ most. record {
         before = a;
         parts = ps;
         going = t.going;
-        runs = subst (λ s. Runs guest s a (standing ps t.going) a) (sym from)
+        runs = subst (λ s. Runs guest most s a (standing ps t.going) a) (sym from)
             (Still (standing ps t.going) a);
         went_on = again.1;
         why = why;
@@ -54,35 +55,38 @@ module _ (guest : ℕ) (n r : Next) (t t' : TurnState) (ps : List Range) (a b : 
   ]
 
 pub returns-else-wanted-clause-runs : goal.returns-else-wanted-clause-runs
-returns-else-wanted-clause-runs c =
+returns-else-wanted-clause-runs c most =
     let t = c.args.turn.now in
-    still_same c.args.guest (left_by (Some c.args.next) t) _ c.args.board.now
+    still_same c.args.guest most (left_by (Some c.args.next) t) _ c.args.board.now
     (ap stand_of c.turn.view_is ∙ ap (λ n. left_by (Some n) t) (sym c.in-Read.is))
 
 pub returns-else-not-copy_part-clause-runs : goal.returns-else-not-copy_part-clause-runs
-returns-else-not-copy_part-clause-runs c =
+returns-else-not-copy_part-clause-runs c most =
     let t = c.args.turn.now in
-    still_same c.args.guest (left_by (Some c.args.next) t) _ c.args.board.now
+    still_same c.args.guest most (left_by (Some c.args.next) t) _ c.args.board.now
     (ap (λ v. standing (c.in-Write.part ∷ v.parts) v.going) c.turn-in-Write.view_is
     ∙ ap (λ n. left_by (Some n) t) (sym c.in-Write.is))
 
 pub returns-in-Again-clause-runs : goal.returns-in-Again-clause-runs
-returns-in-Again-clause-runs c = Still (left_by (Some c.args.next) c.args.turn.now) c.args.board.now
+returns-in-Again-clause-runs c most = Still (left_by
+    (Some c.args.next) c.args.turn.now) c.args.board.now
 
 pub returns-in-Call-clause-runs : goal.returns-in-Call-clause-runs
-returns-in-Call-clause-runs c = Still (left_by (Some c.args.next) c.args.turn.now) c.args.board.now
+returns-in-Call-clause-runs c most = Still (left_by
+    (Some c.args.next) c.args.turn.now) c.args.board.now
 
 pub returns-in-Rest-clause-runs : goal.returns-in-Rest-clause-runs
-returns-in-Rest-clause-runs c = Still (left_by (Some c.args.next) c.args.turn.now) c.args.board.now
+returns-in-Rest-clause-runs c most = Still (left_by
+    (Some c.args.next) c.args.turn.now) c.args.board.now
 
 pub returns-then-wanted-clause-runs : goal.returns-then-wanted-clause-runs
-returns-then-wanted-clause-runs c =
+returns-then-wanted-clause-runs c most =
     let t = c.args.turn.now in
     let gave = c.give_up in
     given_runs c.args.guest c.args.next gave.result t gave.new.turn t.parts c.args.board.now
     gave.new.board (ap (λ n. left_by (Some n) t) c.in-Read.is) gave.ensures.turn
     gave.ensures.either (TooMuch c.in-Read.wanted (c.requires.asks c.in-Read.wanted c.in-Read.is)
-    c.if-wanted.true) gave.ensures.refuses
+    c.if-wanted.true) gave.ensures.refuses most
 
 pub returns-then-wanted-clause-same : goal.returns-then-wanted-clause-same
 returns-then-wanted-clause-same c =
@@ -106,7 +110,7 @@ too_long guest len part ps b d its room has (inr none) =
     (copied_of guest (part ∷ []) b d its has).0)
 
 pub returns-then-not-copy_part-clause-runs : goal.returns-then-not-copy_part-clause-runs
-returns-then-not-copy_part-clause-runs c =
+returns-then-not-copy_part-clause-runs c most =
     let t = c.args.turn.now in
     let gave = c.give_up-then-not-copy_part in
     let part = c.in-Write.part in
@@ -116,7 +120,7 @@ returns-then-not-copy_part-clause-runs c =
     gave.ensures.turn gave.ensures.either
     (too_long c.args.guest _ part t.parts c.args.board.now device.0 device.1 c.requires.room
     (c.requires.copied part c.in-Write.is) (c.copy_part.ensures.none c.if-not-copy_part.true))
-    gave.ensures.refuses
+    gave.ensures.refuses most
 
 pub returns-then-not-copy_part-clause-same : goal.returns-then-not-copy_part-clause-same
 returns-then-not-copy_part-clause-same c =

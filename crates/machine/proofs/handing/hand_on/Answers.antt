@@ -10,59 +10,60 @@ use Rattle.machine.proofs.Waiting.{gave_waits, settled_waits, took_waits, waits_
 use Rattle.machine.proofs.handing.hand_on.Goals as goal
 
 -- one of four steps did something
-module _ (g : ℕ) (s : Stand) (a b d e f : Boards) (first : Runs g s a s b) (second : Runs g s b s d)
-    (third : Runs g s d s e) (fourth : Runs g s e s f) where
-  pub in_all : Runs g s a s f
-  in_all = runs_twice g s s s a b f first
-      (runs_twice g s s s b d f second (runs_twice g s s s d e f third fourth))
+module _ (g most : ℕ) (s : Stand) (a b d e f : Boards) (first : Runs g most s a s b)
+    (second : Runs g most s b s d) (third : Runs g most s d s e)
+    (fourth : Runs g most s e s f) where
+  pub in_all : Runs g most s a s f
+  in_all = runs_twice g most s s s a b f first
+      (runs_twice g most s s s b d f second (runs_twice g most s s s d e f third fourth))
 
-  by_first : DoesSome g s a s b → DoesSome g s a s f
-  by_first does = does_then g s s s a b f does
-      (runs_twice g s s s b d f second (runs_twice g s s s d e f third fourth))
+  by_first : DoesSome g most s a s b → DoesSome g most s a s f
+  by_first does = does_then g most s s s a b f does
+      (runs_twice g most s s s b d f second (runs_twice g most s s s d e f third fourth))
 
-  by_second : DoesSome g s b s d → DoesSome g s a s f
-  by_second does = then_does g s s s a b f first
-      (does_then g s s s b d f does (runs_twice g s s s d e f third fourth))
+  by_second : DoesSome g most s b s d → DoesSome g most s a s f
+  by_second does = then_does g most s s s a b f first
+      (does_then g most s s s b d f does (runs_twice g most s s s d e f third fourth))
 
-  by_third : DoesSome g s d s e → DoesSome g s a s f
-  by_third does = then_does g s s s a b f first
-      (then_does g s s s b d f second (does_then g s s s d e f does fourth))
+  by_third : DoesSome g most s d s e → DoesSome g most s a s f
+  by_third does = then_does g most s s s a b f first
+      (then_does g most s s s b d f second (does_then g most s s s d e f does fourth))
 
-  by_fourth : DoesSome g s e s f → DoesSome g s a s f
-  by_fourth does = then_does g s s s a b f first
-      (then_does g s s s b d f second (then_does g s s s d e f third does))
+  by_fourth : DoesSome g most s e s f → DoesSome g most s a s f
+  by_fourth does = then_does g most s s s a b f first
+      (then_does g most s s s b d f second (then_does g most s s s d e f third does))
 
   pub by_one : (told taken given written : Bool)
-      → (told ≡ true → DoesSome g s a s b) → (taken ≡ true → DoesSome g s b s d)
-      → (given ≡ true → DoesSome g s d s e) → (written ≡ true → DoesSome g s e s f)
-      → (told || taken || given || written) ≡ true → DoesSome g s a s f
+      → (told ≡ true → DoesSome g most s a s b) → (taken ≡ true → DoesSome g most s b s d)
+      → (given ≡ true → DoesSome g most s d s e) → (written ≡ true → DoesSome g most s e s f)
+      → (told || taken || given || written) ≡ true → DoesSome g most s a s f
   by_one true taken given written one two three four is = by_first (one refl)
   by_one false true given written one two three four is = by_second (two refl)
   by_one false false true written one two three four is = by_third (three refl)
   by_one false false false true one two three four is = by_fourth (four refl)
   by_one false false false false one two three four is = absurd (let no = is in cc)
 
-did_some : (g : ℕ) (s : Stand) (a b : Boards) (x : Step) (did : Bool) → IsShare g x a
-    → Makes x (did_answer did) a b → did ≡ true → DoesSome g s a s b
-did_some g s a b x true share makes is =
-    does_step g s a b x (did_answer true) share makes (inl refl)
-did_some g s a b x false share makes is = absurd (let no = is in cc)
+did_some : (g most : ℕ) (s : Stand) (a b : Boards) (x : Step) (did : Bool) → IsShare g x a
+    → Makes x (did_answer did) a b → did ≡ true → DoesSome g most s a s b
+did_some g most s a b x true share makes is =
+    does_step g most s a b x (did_answer true) share makes (inl refl)
+did_some g most s a b x false share makes is = absurd (let no = is in cc)
 
 pub returns-clause-runs : goal.returns-clause-runs
-returns-clause-runs c s =
+returns-clause-runs c most s =
     let g = c.args.guest in
     let a = c.args.board.now in
     let b = c.settle-told.new.self in
     let d = c.take-taken.new.self in
     let e = c.give-given.new.self in
-    in_all g s a b d e c.write_next-written.new.board
-    (runs_step g s a b step.Settle _ tt c.settle-told.ensures.steps)
-    (runs_step g s b d (step.Take g) _ refl c.take-taken.ensures.steps)
-    (runs_step g s d e (step.Give g) _ refl c.give-given.ensures.steps)
-    (c.write_next-written.ensures.runs g s)
+    in_all g most s a b d e c.write_next-written.new.board
+    (runs_step g most s a b step.Settle _ tt c.settle-told.ensures.steps)
+    (runs_step g most s b d (step.Take g) _ refl c.take-taken.ensures.steps)
+    (runs_step g most s d e (step.Give g) _ refl c.give-given.ensures.steps)
+    (c.write_next-written.ensures.runs g most s)
 
 pub returns-clause-did : goal.returns-clause-did
-returns-clause-did c some s =
+returns-clause-did c some most s =
     let g = c.args.guest in
     let a = c.args.board.now in
     let b = c.settle-told.new.self in
@@ -70,16 +71,16 @@ returns-clause-did c some s =
     let e = c.give-given.new.self in
     let share : IsShare g (step.Take g) b = refl in
     let share' : IsShare g (step.Give g) d = refl in
-    by_one g s a b d e c.write_next-written.new.board
-    (runs_step g s a b step.Settle _ tt c.settle-told.ensures.steps)
-    (runs_step g s b d (step.Take g) _ share c.take-taken.ensures.steps)
-    (runs_step g s d e (step.Give g) _ share' c.give-given.ensures.steps)
-    (c.write_next-written.ensures.runs g s)
+    by_one g most s a b d e c.write_next-written.new.board
+    (runs_step g most s a b step.Settle _ tt c.settle-told.ensures.steps)
+    (runs_step g most s b d (step.Take g) _ share c.take-taken.ensures.steps)
+    (runs_step g most s d e (step.Give g) _ share' c.give-given.ensures.steps)
+    (c.write_next-written.ensures.runs g most s)
     c.settle-told.result c.take-taken.result c.give-given.result c.write_next-written.result
-    (did_some g s a b step.Settle c.settle-told.result tt c.settle-told.ensures.steps)
-    (did_some g s b d (step.Take g) c.take-taken.result share c.take-taken.ensures.steps)
-    (did_some g s d e (step.Give g) c.give-given.result share' c.give-given.ensures.steps)
-    (λ is. c.write_next-written.ensures.made is g s)
+    (did_some g most s a b step.Settle c.settle-told.result tt c.settle-told.ensures.steps)
+    (did_some g most s b d (step.Take g) c.take-taken.result share c.take-taken.ensures.steps)
+    (did_some g most s d e (step.Give g) c.give-given.result share' c.give-given.ensures.steps)
+    (λ is. c.write_next-written.ensures.made is g most s)
     (let is = some in cc)
 
 pub returns-clause-keeps : goal.returns-clause-keeps

@@ -16,10 +16,10 @@ room_of b c d v same disk room = ap (λ r. has_room 16648 r.store.disk.outbox) (
 
 pub returns-then-not-has_write : goal.returns-then-not-has_write
 returns-then-not-has_write c = record {
-  runs = λ guest s. Still s c.args.board.now;
+  runs = λ guest most s. Still s c.args.board.now;
   keeps = λ guest. (refl, refl);
   devices = refl;
-  made = λ no guest s. absurd (let yes = no in cc);
+  made = λ no guest most s. absurd (let yes = no in cc);
   none = λ no report. (
     refl,
     λ write. absurd (let a = write in let b = c.has_write.ensures in
@@ -29,10 +29,10 @@ returns-then-not-has_write c = record {
 
 pub returns-then-not-has_room : goal.returns-then-not-has_room
 returns-then-not-has_room c = record {
-  runs = λ guest s. Still s c.args.board.now;
+  runs = λ guest most s. Still s c.args.board.now;
   keeps = λ guest. (refl, refl);
   devices = refl;
-  made = λ no guest s. absurd (let yes = no in cc);
+  made = λ no guest most s. absurd (let yes = no in cc);
   none = λ no report. (
     refl,
     λ write. room_of c.args.board.now.rest c.rest.result.now
@@ -42,8 +42,8 @@ returns-then-not-has_room c = record {
 }
 
 pub returns-in-Ok-clause-runs : goal.returns-in-Ok-clause-runs
-returns-in-Ok-clause-runs c guest s =
-    runs_step guest s c.args.board.now c.advance.new.self step.Advance _
+returns-in-Ok-clause-runs c guest most s =
+    runs_step guest most s c.args.board.now c.advance.new.self step.Advance _
     (record {
       write = sym c.has_write.ensures ∙ c.if-not-has_write.false;
       room = room_of c.args.board.now.rest c.rest.result.now c.disk.result.now _
@@ -52,11 +52,11 @@ returns-in-Ok-clause-runs c guest s =
     c.advance.ensures.steps
 
 pub returns-in-Ok-clause-made : goal.returns-in-Ok-clause-made
-returns-in-Ok-clause-made c made guest s =
+returns-in-Ok-clause-made c made guest most s =
     let b = c.args.board.now in
     let makes = subst (λ r. Makes step.Advance (answer_by fault.Store r) b c.advance.new.self)
     (c.in-Ok.is ∙ ap (λ did. Ok did) made) c.advance.ensures.steps in
-    does_step guest s b c.advance.new.self step.Advance _
+    does_step guest most s b c.advance.new.self step.Advance _
     (record {
       write = sym c.has_write.ensures ∙ c.if-not-has_write.false;
       room = room_of c.args.board.now.rest c.rest.result.now c.disk.result.now _
@@ -64,8 +64,8 @@ returns-in-Ok-clause-made c made guest s =
     }) makes (inl refl)
 
 pub returns-in-Err-clause-runs : goal.returns-in-Err-clause-runs
-returns-in-Err-clause-runs c guest s =
-    runs_step guest s c.args.board.now c.advance.new.self step.Advance _
+returns-in-Err-clause-runs c guest most s =
+    runs_step guest most s c.args.board.now c.advance.new.self step.Advance _
     (record {
       write = sym c.has_write.ensures ∙ c.if-not-has_write.false;
       room = room_of c.args.board.now.rest c.rest.result.now c.disk.result.now _
@@ -74,11 +74,11 @@ returns-in-Err-clause-runs c guest s =
     c.advance.ensures.steps
 
 pub returns-in-Err-clause-made : goal.returns-in-Err-clause-made
-returns-in-Err-clause-made c made guest s =
+returns-in-Err-clause-made c made guest most s =
     let b = c.args.board.now in
     let makes = subst (λ r. Makes step.Advance (answer_by fault.Store r) b c.advance.new.self)
     c.in-Err.is c.advance.ensures.steps in
-    does_step guest s b c.advance.new.self step.Advance _
+    does_step guest most s b c.advance.new.self step.Advance _
     (record {
       write = sym c.has_write.ensures ∙ c.if-not-has_write.false;
       room = room_of c.args.board.now.rest c.rest.result.now c.disk.result.now _

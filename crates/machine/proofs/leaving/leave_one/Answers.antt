@@ -1,19 +1,18 @@
-use Rattle.std.proofs.Common.{[], ap, arith, ◌∙◌, length, rules, refl, sym, subst, true}
+use Rattle.std.proofs.Common.{[], ap, ◌∙◌, length, rules, refl, sym, subst, true}
 use Rattle.std.specs.Prelude.{IsSome}
 use Rattle.machine.proofs.Common.{slice_get, Runs, board_of, in_place, standing}
-use Rattle.board.specs.State.{waiting}
 use Rattle.machine.proofs.Ends.{collected_same, none_collected}
-use Rattle.machine.proofs.Limits.{collected_waits}
 use Rattle.board.specs.declared.step.Step.TheVariants as step
 use Rattle.machine.proofs.Runs.{runs_step, runs_twice, then_does}
 use Rattle.machine.proofs.leaving.leave_one.Goals as goal
 
 pub returns-then-is_none-clause-runs : goal.returns-then-is_none-clause-runs
-returns-then-is_none-clause-runs c =
+returns-then-is_none-clause-runs c most =
     let s = standing [] c.args.turn.now.going in
-    subst (λ rs. Runs c.args.guest s c.args.board.now (standing rs s.going) c.collect.new.self)
+    subst (λ rs. Runs c.args.guest most s c.args.board.now (standing rs s.going) c.collect.new.self)
     (sym c.requires.parts)
-    (runs_step c.args.guest s c.args.board.now c.collect.new.self (step.Collect c.args.guest) _ refl
+    (runs_step c.args.guest most s c.args.board.now c.collect.new.self
+    (step.Collect c.args.guest) _ refl
     c.collect.ensures.steps)
 
 pub returns-then-is_none-clause-nothing : goal.returns-then-is_none-clause-nothing
@@ -27,28 +26,30 @@ returns-then-is_none-clause-nothing c is = (
 )
 
 pub returns-then-not-prepare-clause-runs : goal.returns-then-not-prepare-clause-runs
-returns-then-not-prepare-clause-runs c =
+returns-then-not-prepare-clause-runs c most =
     let g = c.args.guest in
     let s = standing [] c.args.turn.now.going in
     let t = c.prepare.new.turn in
-    subst (λ rs. Runs g s c.args.board.now (standing rs t.going) c.prepare.new.board)
+    subst (λ rs. Runs g most s c.args.board.now (standing rs t.going) c.prepare.new.board)
     (sym (c.prepare.ensures.idle c.if-not-prepare.true))
-    (runs_twice g s s (standing [] t.going) c.args.board.now c.collect.new.self c.prepare.new.board
-    (runs_step g s c.args.board.now c.collect.new.self (step.Collect g) _ refl
-    c.collect.ensures.steps) c.prepare.ensures.runs)
+    (runs_twice g most s s (standing [] t.going) c.args.board.now c.collect.new.self
+    c.prepare.new.board
+    (runs_step g most s c.args.board.now c.collect.new.self (step.Collect g) _ refl
+    c.collect.ensures.steps) (c.prepare.ensures.runs most))
 
 pub returns-clause-runs : goal.returns-clause-runs
-returns-clause-runs c =
+returns-clause-runs c most =
     let g = c.args.guest in
     let s = standing [] c.args.turn.now.going in
     let begun = standing [] true in
-    runs_twice g s begun _ c.args.board.now c.prepare.new.board c.publish.new.board
-    (subst (λ v. Runs g s c.args.board.now (standing [] v) c.prepare.new.board)
+    runs_twice g most s begun _ c.args.board.now c.prepare.new.board c.publish.new.board
+    (subst (λ v. Runs g most s c.args.board.now (standing [] v) c.prepare.new.board)
     (c.prepare.ensures.begun (let is = c.if-not-prepare.false in cc))
-    (runs_twice g s s (standing [] c.prepare.new.turn.going) c.args.board.now c.collect.new.self
+    (runs_twice g most s s (standing [] c.prepare.new.turn.going) c.args.board.now
+    c.collect.new.self
     c.prepare.new.board
-    (runs_step g s c.args.board.now c.collect.new.self (step.Collect g) _ refl
-    c.collect.ensures.steps) c.prepare.ensures.runs)) c.publish.ensures.runs
+    (runs_step g most s c.args.board.now c.collect.new.self (step.Collect g) _ refl
+    c.collect.ensures.steps) (c.prepare.ensures.runs most))) (c.publish.ensures.runs most)
 
 pub prepare-requires-clause-lies : goal.prepare-requires-clause-lies
 prepare-requires-clause-lies c =
@@ -62,39 +63,26 @@ publish-requires-clause-lies c =
     (subst (λ o. IsSome o) c.done.ensures (search rules)))
 
 pub returns-clause-did : goal.returns-clause-did
-returns-clause-did c is =
+returns-clause-did c is most =
     let g = c.args.guest in
     let s = standing [] c.args.turn.now.going in
     let begun = standing [] true in
-    then_does g s begun _ c.args.board.now c.prepare.new.board c.publish.new.board
-    (subst (λ v. Runs g s c.args.board.now (standing [] v) c.prepare.new.board)
+    then_does g most s begun _ c.args.board.now c.prepare.new.board c.publish.new.board
+    (subst (λ v. Runs g most s c.args.board.now (standing [] v) c.prepare.new.board)
     (c.prepare.ensures.begun (let there = c.if-not-prepare.false in cc))
-    (runs_twice g s s (standing [] c.prepare.new.turn.going) c.args.board.now c.collect.new.self
+    (runs_twice g most s s (standing [] c.prepare.new.turn.going) c.args.board.now
+    c.collect.new.self
     c.prepare.new.board
-    (runs_step g s c.args.board.now c.collect.new.self (step.Collect g) _ refl
-    c.collect.ensures.steps) c.prepare.ensures.runs)) (c.publish.ensures.did is)
+    (runs_step g most s c.args.board.now c.collect.new.self (step.Collect g) _ refl
+    c.collect.ensures.steps) (c.prepare.ensures.runs most))) (c.publish.ensures.did is most)
 
 pub returns-then-is_none-clause-count : goal.returns-then-is_none-clause-count
-returns-then-is_none-clause-count c = (
-  ap length c.collect.ensures.devices,
-  collected_waits c.args.guest _ c.args.board.now c.collect.new.self c.collect.ensures.steps,
-)
+returns-then-is_none-clause-count c = ap length c.collect.ensures.devices
 
 pub returns-then-not-prepare-clause-count : goal.returns-then-not-prepare-clause-count
 returns-then-not-prepare-clause-count c =
-    let g = c.args.guest in
-    let less = collected_waits g _ c.args.board.now c.collect.new.self c.collect.ensures.steps in
-    let same = ap (λ r. waiting g r) c.prepare.ensures.rest in (
-      c.prepare.ensures.count ∙ ap length c.collect.ensures.devices,
-      omega (arith, less, same),
-    )
+    c.prepare.ensures.count ∙ ap length c.collect.ensures.devices
 
 pub returns-clause-count : goal.returns-clause-count
 returns-clause-count c =
-    let g = c.args.guest in
-    let less = collected_waits g _ c.args.board.now c.collect.new.self c.collect.ensures.steps in
-    let same = ap (λ r. waiting g r) c.prepare.ensures.rest in
-    let more = c.publish.ensures.count.1 in (
-      c.publish.ensures.count.0 ∙ c.prepare.ensures.count ∙ ap length c.collect.ensures.devices,
-      omega (arith, less, same, more),
-    )
+    c.publish.ensures.count ∙ c.prepare.ensures.count ∙ ap length c.collect.ensures.devices

@@ -1,79 +1,71 @@
-use Rattle.std.proofs.Common.{arith, length, refl, ap, subst, ◌∙◌, Ok, Some, true, []}
+use Rattle.std.proofs.Common.{length, refl, ap, subst, ◌∙◌, Ok, Some, true, []}
 use Rattle.machine.proofs.Common.{OutboxMakes, outbox_state, stand_of, standing}
 use Rattle.board.specs.Asking.{PublishesOf}
-use Rattle.board.specs.State.{waiting}
-use Rattle.machine.proofs.Limits.{handed_fewer}
-use Rattle.machine.proofs.Replies.{hands_by, hands_does, noted_reply}
+use Rattle.machine.proofs.Replies.{handed_count, hands_by, hands_does, noted_reply}
 use Rattle.machine.proofs.Popping.{still_by}
 use Rattle.machine.proofs.leaving.publish.Goals as goal
 
 pub returns-in-Err-clause-runs : goal.returns-in-Err-clause-runs
-returns-in-Err-clause-runs c = still_by c.args.guest true (stand_of c.void.new.self)
+returns-in-Err-clause-runs c most = still_by c.args.guest most true (stand_of c.void.new.self)
     c.args.board.now c.publish.new.self
     (ap stand_of c.void.ensures ∙ ap (λ v. standing [] v) c.requires.begun)
     c.in-Err.ensures.same
 
 pub returns-in-Ok-Some-Wrote-clause-runs : goal.returns-in-Ok-Some-Wrote-clause-runs
-returns-in-Ok-Some-Wrote-clause-runs c =
+returns-in-Ok-Some-Wrote-clause-runs c most =
     let g = c.args.guest in
     let b = c.args.board.now in
     let o = c.in-Ok-Some-Wrote in
     let hands = subst (λ p. PublishesOf outbox_state OutboxMakes g (Ok p) b c.publish.new.self)
     (o.field-0-is ∙ ap Some o.field-0-0-is) o.ensures in
-    hands_by g _ _ _ b c.publish.new.self hands refl
+    hands_by g most _ _ _ b c.publish.new.self hands refl
     (ap (λ t. t.parts) c.turn.view_is
     ∙ noted_reply g _ b hands.device hands.done c.requires.noted hands.lay hands.its)
 
 pub returns-in-Ok-Some-Dropped-clause-runs : goal.returns-in-Ok-Some-Dropped-clause-runs
-returns-in-Ok-Some-Dropped-clause-runs c =
+returns-in-Ok-Some-Dropped-clause-runs c most =
     let g = c.args.guest in
     let b = c.args.board.now in
     let o = c.in-Ok-Some-Dropped in
     let hands = subst (λ p. PublishesOf outbox_state OutboxMakes g (Ok p) b c.publish.new.self)
     (o.field-0-is ∙ ap Some o.field-0-0-is) o.ensures in
-    hands_by g _ _ _ b c.publish.new.self hands (ap (λ t. t.going) c.stop.ensures)
+    hands_by g most _ _ _ b c.publish.new.self hands (ap (λ t. t.going) c.stop.ensures)
     (ap (λ t. t.parts) c.stop.ensures)
 
 pub returns-in-Ok-Some-Wrote-clause-did : goal.returns-in-Ok-Some-Wrote-clause-did
-returns-in-Ok-Some-Wrote-clause-did c is =
+returns-in-Ok-Some-Wrote-clause-did c is most =
     let g = c.args.guest in
     let b = c.args.board.now in
     let o = c.in-Ok-Some-Wrote in
     let hands = subst (λ p. PublishesOf outbox_state OutboxMakes g (Ok p) b c.publish.new.self)
     (o.field-0-is ∙ ap Some o.field-0-0-is) o.ensures in
-    hands_does g _ _ _ b c.publish.new.self hands refl
+    hands_does g most _ _ _ b c.publish.new.self hands refl
     (ap (λ t. t.parts) c.turn.view_is
     ∙ noted_reply g _ b hands.device hands.done c.requires.noted hands.lay hands.its)
 
 pub returns-in-Ok-Some-Dropped-clause-did : goal.returns-in-Ok-Some-Dropped-clause-did
-returns-in-Ok-Some-Dropped-clause-did c is =
+returns-in-Ok-Some-Dropped-clause-did c is most =
     let g = c.args.guest in
     let b = c.args.board.now in
     let o = c.in-Ok-Some-Dropped in
     let hands = subst (λ p. PublishesOf outbox_state OutboxMakes g (Ok p) b c.publish.new.self)
     (o.field-0-is ∙ ap Some o.field-0-0-is) o.ensures in
-    hands_does g _ _ _ b c.publish.new.self hands (ap (λ t. t.going) c.stop.ensures)
+    hands_does g most _ _ _ b c.publish.new.self hands (ap (λ t. t.going) c.stop.ensures)
     (ap (λ t. t.parts) c.stop.ensures)
 
 pub returns-in-Err-clause-count : goal.returns-in-Err-clause-count
-returns-in-Err-clause-count c =
-    let same = ap (λ b. waiting c.args.guest b.rest) c.in-Err.ensures.same in
-    (ap (λ b. length b.devices) c.in-Err.ensures.same, omega (arith, same))
+returns-in-Err-clause-count c = ap (λ b. length b.devices) c.in-Err.ensures.same
 
 pub returns-in-Ok-Some-Wrote-clause-count : goal.returns-in-Ok-Some-Wrote-clause-count
 returns-in-Ok-Some-Wrote-clause-count c =
-    let g = c.args.guest in
-    let b = c.args.board.now in
     let o = c.in-Ok-Some-Wrote in
-    handed_fewer g _ b c.publish.new.self
-    (subst (λ p. PublishesOf outbox_state OutboxMakes g (Ok p) b c.publish.new.self)
-    (o.field-0-is ∙ ap Some o.field-0-0-is) o.ensures)
+    handed_count c.args.guest _ c.args.board.now c.publish.new.self
+    (subst (λ p. PublishesOf outbox_state OutboxMakes c.args.guest (Ok p) c.args.board.now
+    c.publish.new.self) (o.field-0-is ∙ ap Some o.field-0-0-is) o.ensures)
 
 pub returns-in-Ok-Some-Dropped-clause-count : goal.returns-in-Ok-Some-Dropped-clause-count
 returns-in-Ok-Some-Dropped-clause-count c =
-    let g = c.args.guest in
-    let b = c.args.board.now in
     let o = c.in-Ok-Some-Dropped in
-    handed_fewer g _ b c.publish.new.self
-    (subst (λ p. PublishesOf outbox_state OutboxMakes g (Ok p) b c.publish.new.self)
-    (o.field-0-is ∙ ap Some o.field-0-0-is) o.ensures)
+    handed_count c.args.guest _ c.args.board.now c.publish.new.self
+    (subst (λ p. PublishesOf outbox_state OutboxMakes c.args.guest (Ok p) c.args.board.now
+    c.publish.new.self) (o.field-0-is ∙ ap Some o.field-0-0-is) o.ensures)

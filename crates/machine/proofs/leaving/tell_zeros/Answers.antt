@@ -30,11 +30,12 @@ own_part : (guest i : ℕ) (ps : List Range) (a b : Boards) (d : AskingState) (p
     → IsToWrite guest b d part
 own_part guest i ps a b d part lies noted rest queues its at =
     ByAReply i (ap (λ qs. slice_get qs i)
-    (due_noted guest ps b d (subst (λ r. IsSome (in_place (slice_get r.dones guest))) (sym rest) lies)
+    (due_noted guest ps b d (subst (λ r. IsSome (in_place (slice_get r.dones guest)))
+    (sym rest) lies)
     (noted_same guest ps a b rest queues noted) its) ∙ at)
 
 pub loop-i-init : goal.loop-i-init
-loop-i-init c = ((λ ps v. Still (standing ps v) c.args.board.now), refl, refl, refl)
+loop-i-init c = ((λ most ps v. Still (standing ps v) c.args.board.now), refl, refl, refl)
 
 pub loop-i-preserved : goal.loop-i-preserved
 loop-i-preserved c =
@@ -45,13 +46,16 @@ loop-i-preserved c =
     let at : slice_get c.turn.inside.parts.items c.loop-i.i ≡ Some part =
     slice_get_read c.turn.inside.parts.items c.len-i-end.result c.loop-i.i part (search rules)
     (search rules) (search rules) in
-    let own = own_part g c.loop-i.i c.args.turn.now.parts c.args.board.now b c.device.result.now part
+    let own = own_part g c.loop-i.i c.args.turn.now.parts c.args.board.now b c.device.result.now
+    part
     c.requires.lies c.requires.noted c.loop-i.invariant.1 c.loop-i.invariant.2
     c.device.ensures.device
     (ap (λ v. slice_get v.parts c.loop-i.i) (sym c.turn.view_is) ∙ at) in (
-      (λ ps v. runs_twice g (standing ps v) (standing ps v) (standing ps v) c.args.board.now b
-          (moved b g c.tell.new.self) (c.loop-i.invariant.0 ps v)
-          (told_runs g b c.device.result.now c.tell.new.self c.device.ensures.device ps v part _
+      (λ most ps v. runs_twice g most (standing ps v) (standing ps v)
+          (standing ps v) c.args.board.now b
+          (moved b g c.tell.new.self) (c.loop-i.invariant.0 most ps v)
+          (told_runs g b c.device.result.now c.tell.new.self c.device.ensures.device most ps v part
+          _
           c.tell.result own (few_zeros c.min-count.result part.len c.min-count.ensures)
           (zeros c.min-count.result) t.ok t.unchanged)),
       c.loop-i.invariant.1,
@@ -61,7 +65,7 @@ loop-i-preserved c =
     )
 
 pub returns-then-is_err-clause-runs : goal.returns-then-is_err-clause-runs
-returns-then-is_err-clause-runs c ps v =
+returns-then-is_err-clause-runs c most ps v =
     let g = c.args.guest in
     let b = c.loop-i.board in
     let t = c.tell.ensures in
@@ -69,13 +73,14 @@ returns-then-is_err-clause-runs c ps v =
     let at : slice_get c.turn.inside.parts.items c.loop-i.i ≡ Some part =
     slice_get_read c.turn.inside.parts.items c.len-i-end.result c.loop-i.i part (search rules)
     (search rules) (search rules) in
-    let own = own_part g c.loop-i.i c.args.turn.now.parts c.args.board.now b c.device.result.now part
+    let own = own_part g c.loop-i.i c.args.turn.now.parts c.args.board.now b c.device.result.now
+    part
     c.requires.lies c.requires.noted c.loop-i.invariant.1 c.loop-i.invariant.2
     c.device.ensures.device
     (ap (λ v. slice_get v.parts c.loop-i.i) (sym c.turn.view_is) ∙ at) in
-    runs_twice g (standing ps v) (standing ps v) (standing ps v) c.args.board.now b
-    (moved b g c.tell.new.self) (c.loop-i.invariant.0 ps v)
-    (told_runs g b c.device.result.now c.tell.new.self c.device.ensures.device ps v part _
+    runs_twice g most (standing ps v) (standing ps v) (standing ps v) c.args.board.now b
+    (moved b g c.tell.new.self) (c.loop-i.invariant.0 most ps v)
+    (told_runs g b c.device.result.now c.tell.new.self c.device.ensures.device most ps v part _
     c.tell.result own (few_zeros c.min-count.result part.len c.min-count.ensures)
     (zeros c.min-count.result) t.ok t.unchanged)
 

@@ -1,4 +1,4 @@
-use Rattle.std.proofs.Common.{inl, refl, ap, sym, subst, ◌∙◌}
+use Rattle.std.proofs.Common.{refl, ap, sym, subst, ◌∙◌}
 use Rattle.machine.proofs.Common.{Runs, stand_of, standing}
 use Rattle.machine.specs.declared.fault.MachineFault.TheVariants as fault
 use Rattle.machine.proofs.Goings.{lacks, went_after, went_by}
@@ -20,13 +20,13 @@ returns-in-NoMemory c =
     let u = stand_of c.take_next.new.self in
     record {
       went = went_by g c.args.most s a c.args.turn.now c.take_next.new.self a b _
-          (runs_twice g s t u a b b
-          (subst (λ ps. Runs g (standing ps s.going) a t b) (sym c.requires.parts)
-          c.leave_one.ensures.runs)
-          (gives_up g t.parts t.going u b (ap stand_of c.take_next.ensures)))
-          (lacks g fault.NoMemory s a c.take_next.new.self b refl) tt c.leave_one.ensures.count.0
-          (ap (λ v. v.asked) c.take_next.ensures ∙ c.leave_one.ensures.keeps.1)
-          (inl c.leave_one.ensures.count.1);
+          (runs_twice g c.args.most s t u a b b
+          (subst (λ ps. Runs g c.args.most (standing ps s.going) a t b) (sym c.requires.parts)
+          (c.leave_one.ensures.runs c.args.most))
+          (gives_up g c.args.most t.parts t.going u b (ap stand_of c.take_next.ensures)))
+          (lacks g c.args.most fault.NoMemory s a c.take_next.new.self b refl) tt
+          c.leave_one.ensures.count
+          (ap (λ v. v.asked) c.take_next.ensures ∙ c.leave_one.ensures.keeps.1);
     }
 
 pub returns-in-Nothing : goal.returns-in-Nothing
@@ -37,8 +37,8 @@ returns-in-Nothing c =
     record {
       went = went_after g c.args.most t l.turn c.call.new.turn c.args.board.now l.board
           c.call.new.board _
-          (subst (λ ps. Runs g (standing ps t.going) c.args.board.now (stand_of l.turn) l.board)
-          (sym c.requires.parts) c.leave_one.ensures.runs)
-          c.leave_one.ensures.count.0 c.leave_one.ensures.keeps.1 (inl c.leave_one.ensures.count.1)
-          c.call.ensures.went;
+          (subst (λ ps. Runs g c.args.most (standing ps t.going) c.args.board.now
+          (stand_of l.turn) l.board)
+          (sym c.requires.parts) (c.leave_one.ensures.runs c.args.most))
+          c.leave_one.ensures.count c.leave_one.ensures.keeps.1 c.call.ensures.went;
     }

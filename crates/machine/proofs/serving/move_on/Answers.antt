@@ -3,7 +3,6 @@ use Rattle.machine.proofs.Common.{stand_of, standing}
 use Rattle.machine.specs.Ending.{Went}
 use Rattle.machine.specs.declared.serving.Next.TheVariants as next
 use Rattle.machine.proofs.Goings.{went_by}
-use Rattle.machine.proofs.Limits.{limit_same}
 use Rattle.machine.proofs.Runs.{still_same}
 use Rattle.machine.proofs.serving.move_on.Goals as goal
 
@@ -14,15 +13,14 @@ returns-in-Some c =
     let s = stand_of c.args.turn.now in
     let t = stand_of c.next_part.new.self in
     let part = c.in-Some.part in
-    let first = still_same g s (standing (part ∷ t.parts) t.going) b
+    let first = still_same g c.args.most s (standing (part ∷ t.parts) t.going) b
     (ap (λ v. standing (part ∷ t.parts) v.going) c.next_part.ensures.rest
     ∙ ap (λ qs. standing qs s.going) (sym c.in-Some.ensures.some)) in
     record {
       went = went_by g c.args.most s b c.args.turn.now c.next_part.new.self b b
           (Some (next.Write part))
           first tt tt refl
-          (ap (λ t. t.asked) c.next_part.ensures.rest)
-          (limit_same g c.args.most b.rest b.rest refl);
+          (ap (λ t. t.asked) c.next_part.ensures.rest);
     }
 
 pub take-requires-clause-parts : goal.take-requires-clause-parts

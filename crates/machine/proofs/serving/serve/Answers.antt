@@ -2,7 +2,6 @@ use Rattle.std.proofs.Common.{inl, refl, subst, ◌∙◌, Some, arith}
 use Rattle.machine.proofs.Common.{Still, stand_of}
 use Rattle.machine.specs.Ending.{Went}
 use Rattle.machine.proofs.Goings.{went_after, went_by}
-use Rattle.machine.proofs.Limits.{limit_same, limit_twice}
 use Rattle.machine.proofs.Runs.{runs_twice}
 use Rattle.machine.specs.Serving.{DoesMore, DoesNone}
 use Rattle.machine.proofs.serving.serve.Goals as goal
@@ -13,7 +12,6 @@ loop-move-init c =
       Still (stand_of c.args.turn.now) b,
       refl,
       refl,
-      limit_same c.args.guest c.args.most b.rest b.rest refl,
       DoesNone _ (stand_of c.args.turn.now) (stand_of c.args.turn.now) b b refl
           (Still (stand_of c.args.turn.now) b),
     )
@@ -24,7 +22,7 @@ returns-in-Some c =
     record {
       went = went_after c.args.guest c.args.most c.args.turn.now l.turn c.move_on.new.turn
           c.args.board.now l.board c.move_on.new.board (Some c.in-Some.next) l.invariant.0
-          l.invariant.1 l.invariant.2 l.invariant.3
+          l.invariant.1 l.invariant.2
           (subst (λ n. Went c.args.guest c.args.most (stand_of l.turn) l.board l.turn
           c.move_on.new.turn l.board
           c.move_on.new.board n) c.in-Some.is c.move_on.ensures.went);
@@ -36,15 +34,13 @@ loop-move-preserved c =
     let went = subst (λ n. Went c.args.guest c.args.most (stand_of l.turn) l.board l.turn
     c.move_on.new.turn l.board
     c.move_on.new.board n) c.in_default.is c.move_on.ensures.went in (
-      runs_twice c.args.guest (stand_of c.args.turn.now) (stand_of l.turn)
+      runs_twice c.args.guest c.args.most (stand_of c.args.turn.now) (stand_of l.turn)
           (stand_of c.move_on.new.turn) c.args.board.now l.board c.move_on.new.board l.invariant.0
           went.runs,
       went.count ∙ l.invariant.1,
       went.asked ∙ l.invariant.2,
-      limit_twice c.args.guest c.args.most c.args.board.now.rest l.board.rest
-          c.move_on.new.board.rest l.invariant.3 went.limit,
       DoesMore _ l._move (stand_of c.args.turn.now) (stand_of l.turn) (stand_of c.move_on.new.turn)
-          c.args.board.now l.board c.move_on.new.board refl l.invariant.4 went.busy,
+          c.args.board.now l.board c.move_on.new.board refl l.invariant.3 went.busy,
     )
 
 pub returns-in-Some-move_on : goal.returns-in-Some-move_on
@@ -54,7 +50,7 @@ returns-in-Some-move_on c =
     record {
       went = went_after c.args.guest c.args.most c.args.turn.now l.turn m.new.turn
           c.args.board.now l.board m.new.board (Some c.in-Some-move_on.next) l.invariant.0
-          l.invariant.1 l.invariant.2 l.invariant.3
+          l.invariant.1 l.invariant.2
           (subst (λ n. Went c.args.guest c.args.most (stand_of l.turn) l.board l.turn m.new.turn
           l.board m.new.board n)
           c.in-Some-move_on.is m.ensures.went);
@@ -76,10 +72,8 @@ returns-in-None c =
     m.ensures.went in
     record {
       went = went_by g c.args.most s a c.args.turn.now m.new.turn a m.new.board _
-          (runs_twice g s t u a l.board m.new.board l.invariant.0 went.runs) tt
+          (runs_twice g c.args.most s t u a l.board m.new.board l.invariant.0 went.runs) tt
           (inl (DoesMore 16 l._move s t u a l.board m.new.board (omega (arith, low, high))
-          l.invariant.4
-          went.busy))
-          (went.count ∙ l.invariant.1) (went.asked ∙ l.invariant.2)
-          (limit_twice g c.args.most a.rest l.board.rest m.new.board.rest l.invariant.3 went.limit);
+          l.invariant.3 went.busy))
+          (went.count ∙ l.invariant.1) (went.asked ∙ l.invariant.2);
     }

@@ -1,11 +1,11 @@
 use Rattle.std.proofs.Common.{◌≡◌, length}
 use Rattle.machine.proofs.Common.{Runs, stand_of}
-use Rattle.machine.specs.Serving.{DoesMany, KeepsLimit}
+use Rattle.machine.specs.Serving.{DoesMany}
 use Rattle.machine.proofs.serving.serve.Given as goal
 
 abbrev pub invariant-loop-move : goal.invariant-loop-move
 invariant-loop-move l =
-    Runs l.fn.guest (stand_of l.fn.turn) l.fn.board (stand_of l.turn) l.board
+    Runs l.fn.guest l.fn.most (stand_of l.fn.turn) l.fn.board (stand_of l.turn) l.board
     × (length l.board.devices ≡ length l.fn.board.devices) × (l.turn.asked ≡ l.fn.turn.asked)
-    × KeepsLimit l.fn.guest l.fn.most l.fn.board.rest l.board.rest
-    × DoesMany l.fn.guest l._move (stand_of l.fn.turn) l.fn.board (stand_of l.turn) l.board
+    × DoesMany l.fn.guest l.fn.most l._move (stand_of l.fn.turn) l.fn.board
+    (stand_of l.turn) l.board

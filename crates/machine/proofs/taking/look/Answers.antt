@@ -1,32 +1,30 @@
-use Rattle.std.proofs.Common.{ap, arith, inl, inr, [], true}
+use Rattle.std.proofs.Common.{ap, inl, inr, ◌∙◌, [], true}
+use Rattle.std.specs.Prelude.{nat_lt}
 use Rattle.board.specs.State.{waiting}
 use Rattle.machine.proofs.Common.{stand_of, standing}
 use Rattle.machine.proofs.Goings.{taken_after}
 use Rattle.machine.proofs.Runs.{runs_twice, then_does}
+use Rattle.machine.specs.Serving.{MayTake}
 use Rattle.machine.proofs.taking.look.Goals as goal
 
-pub returns-clause-runs : goal.returns-clause-runs
-returns-clause-runs c =
-    runs_twice c.args.guest (standing [] c.args.turn.now.going) (standing [] true)
-    (stand_of c.pop.new.turn) c.args.board.now c.begin_pop.new.board c.pop.new.board
-    c.begin_pop.ensures.runs c.pop.ensures.runs
-
-pub returns-clause-did : goal.returns-clause-did
-returns-clause-did c is = elim (c.pop.ensures.did is) [
-  | inl some ↦ inl (then_does c.args.guest (standing [] c.args.turn.now.going) (standing [] true)
-      (stand_of c.pop.new.turn) c.args.board.now c.begin_pop.new.board c.pop.new.board
-      c.begin_pop.ensures.runs some)
-  | inr parts ↦ inr parts
-]
-
-pub returns-clause-waits : goal.returns-clause-waits
-returns-clause-waits c =
-    let more = c.pop.ensures.waits in
-    let same = ap (λ r. waiting c.args.guest r) c.begin_pop.ensures.rest in
-    omega (arith, more, same)
-
-pub returns-clause-taken : goal.returns-clause-taken
-returns-clause-taken c most =
-    taken_after c.args.guest most (standing [] c.args.turn.now.going) (standing [] true)
-    c.args.board.now c.begin_pop.new.board c.pop.new.turn c.pop.new.board c.pop.result
-    c.begin_pop.ensures.runs (c.pop.ensures.taken most)
+pub returns-clause-looks : goal.returns-clause-looks
+returns-clause-looks c most fewer =
+    let g = c.args.guest in
+    let s = standing [] c.args.turn.now.going in
+    let begun = standing [] true in
+    let a = c.args.board.now in
+    let b = c.begin_pop.new.board in
+    let d = c.pop.new.board in
+    let first = c.begin_pop.ensures.runs most in
+    let may : MayTake g most b = ap (λ r. nat_lt (waiting g r) most) c.begin_pop.ensures.rest
+    ∙ fewer in
+    record {
+      runs = runs_twice g most s begun (stand_of c.pop.new.turn) a b d first
+          (c.pop.ensures.runs most may);
+      became = taken_after g most s begun a b c.pop.new.turn d c.pop.result first
+          (c.pop.ensures.taken most may);
+      did = λ is. elim (c.pop.ensures.did is most may) [
+        | inl some ↦ inl (then_does g most s begun (stand_of c.pop.new.turn) a b d first some)
+        | inr parts ↦ inr parts
+      ];
+    }

@@ -9,7 +9,6 @@ use Rattle.board.specs.declared.step.Seen.TheVariants.{Did}
 use Rattle.board.specs.declared.step.Step.TheVariants as step
 use Rattle.board.specs.declared.step.StepFault.TheVariants as fault
 use Rattle.machine.specs.Ending.{BookRefused}
-use Rattle.machine.proofs.Limits.{submitted_waits}
 use Rattle.machine.proofs.Popping.{some_at}
 use Rattle.machine.proofs.Runs.{does_step, runs_step}
 use Rattle.machine.proofs.taking.submit.Goals as goal
@@ -41,37 +40,31 @@ submit_did g a b did sound below job makes =
     makes.steps.does
 
 pub returns-in-Ok-clause-runs : goal.returns-in-Ok-clause-runs
-returns-in-Ok-clause-runs c ps =
-    runs_step c.args.guest ps c.args.board.now c.submit.new.self (step.Submit c.args.guest) _ refl
+returns-in-Ok-clause-runs c most ps =
+    runs_step c.args.guest most ps c.args.board.now c.submit.new.self
+    (step.Submit c.args.guest) _ refl
     c.submit.ensures.steps
 
 pub returns-in-Ok-clause-did : goal.returns-in-Ok-clause-did
-returns-in-Ok-clause-did c is s =
+returns-in-Ok-clause-did c is most s =
     let g = c.args.guest in
     let makes = subst (λ r. Makes (step.Submit g) (answer_by fault.Book r) c.args.board.now
     c.submit.new.self) c.in-Ok.is c.submit.ensures.steps in
-    does_step g s c.args.board.now c.submit.new.self (step.Submit g) _ refl makes
+    does_step g most s c.args.board.now c.submit.new.self (step.Submit g) _ refl makes
     (inl (submit_did g c.args.board.now c.submit.new.self _ c.what_always_holds.ensures
     c.requires.guest c.requires.job makes))
 
 pub returns-in-Err-clause-runs : goal.returns-in-Err-clause-runs
-returns-in-Err-clause-runs c ps =
-    runs_step c.args.guest ps c.args.board.now c.submit.new.self (step.Submit c.args.guest) _ refl
-    c.submit.ensures.steps
-
-pub returns-in-Ok-clause-waits : goal.returns-in-Ok-clause-waits
-returns-in-Ok-clause-waits c = submitted_waits c.args.guest _ c.args.board.now c.submit.new.self
-    c.submit.ensures.steps
-
-pub returns-in-Err-clause-waits : goal.returns-in-Err-clause-waits
-returns-in-Err-clause-waits c = submitted_waits c.args.guest _ c.args.board.now c.submit.new.self
+returns-in-Err-clause-runs c most ps =
+    runs_step c.args.guest most ps c.args.board.now c.submit.new.self
+    (step.Submit c.args.guest) _ refl
     c.submit.ensures.steps
 
 pub returns-in-Err-clause-either : goal.returns-in-Err-clause-either
 returns-in-Err-clause-either c = inr (record {
   why = c.of_book.result;
   is = refl;
-  reason = λ s. BookRefused s c.args.board.now c.submit.new.self (fault.Book c.in-Err.refused)
+  reason = λ most s. BookRefused s c.args.board.now c.submit.new.self (fault.Book c.in-Err.refused)
       (Still s c.args.board.now)
       (subst (λ r. Makes (step.Submit c.args.guest) (answer_by fault.Book r) c.args.board.now
       c.submit.new.self) c.in-Err.is c.submit.ensures.steps) c.of_book.ensures

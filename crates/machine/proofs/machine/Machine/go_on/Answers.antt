@@ -27,13 +27,13 @@ pub loop-guest-preserved : goal.loop-guest-preserved
 loop-guest-preserved c =
     let l = c.loop-guest in
     let h = c.hand_all in (
-      goes_more _ c.args.self.now.board l.self-inside.board h.new.board l.invariant.0
-          (standing [] false) (h.ensures.runs (standing [] false)),
+      goes_more _ 0 c.args.self.now.board l.self-inside.board h.new.board l.invariant.0
+          (standing [] false) (h.ensures.runs 0 (standing [] false)),
       h.ensures.devices ∙ l.invariant.1,
       h.ensures.keeps.0 ∙ l.invariant.2,
       whole_twice c.args.self.now.board.rest l.self-inside.board.rest h.new.board.rest l.invariant.3
-          (runs_whole _ (standing [] false) (standing [] false) l.self-inside.board h.new.board
-          (h.ensures.runs (standing [] false))),
+          (runs_whole _ 0 (standing [] false) (standing [] false) l.self-inside.board h.new.board
+          (h.ensures.runs 0 (standing [] false))),
       l.invariant.4,
       l.invariant.5,
       works_more l.guest c.args.self.now.board l.self-inside.board h.new.board l.invariant.0

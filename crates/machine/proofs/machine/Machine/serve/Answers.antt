@@ -84,7 +84,8 @@ returns-clause-served c =
       board = s.new.board;
       turns = slice_set m.turns k s.new.turn;
     })) (sym c.from-at.ensures)
-    (serves g m c.index_mut-turn.result.now s.new.turn s.ensures.heard.left _ s.ensures.heard.heard
+    (serves g c.most-most.result m c.index_mut-turn.result.now s.new.turn s.ensures.heard.left _
+    s.ensures.heard.heard
     s.new.board its s.ensures.heard.begins s.ensures.heard.runs))
 
 pub returns-clause-tells : goal.returns-clause-tells
@@ -116,9 +117,9 @@ returns-clause-tells c =
       turns = slice_set m.turns k s.new.turn;
     })) (sym same)
     (tells_of m g c.most-most.result c.index.result.now c.index_mut-turn.result.now s.new.turn there
-    given s.new.board s.new.bytes s.result c.served-2.result setup its
+    given s.new.board s.new.bytes s.result c.served-2.result c.most-most.ensures setup its
     (has_all m g c.index.result.now c.index_mut-turn.result.now device.0 setup its device.1)
-    (omega (arith, room)) c.most-most.ensures c.served-2.ensures.next s.ensures.heard s.ensures.limit
+    (omega (arith, room)) c.served-2.ensures.next s.ensures.heard
     c.served-2.ensures.sync c.served-2.ensures.waiting))
 
 pub invariant_of-self : goal.invariant_of-self
@@ -133,8 +134,10 @@ invariant_of-self c =
     (search rules) (search rules) (search rules) in
     subst (λ k. HasCopies (slice_set turns k s.new.turn) s.new.board) (sym c.from-at.ensures)
     (copies_set turns g s.new.turn board s.new.board
-    (served_know g (stand_of turn) h.left board h.heard s.new.board s.result s.new.turn h.begins
+    (served_know g c.most-most.result (stand_of turn) h.left board h.heard s.new.board s.result
+    s.new.turn h.begins
     h.runs)
-    (served_copied g (stand_of turn) h.left board h.heard s.new.board s.result s.new.turn h.begins
+    (served_copied g c.most-most.result (stand_of turn) h.left board h.heard s.new.board s.result
+    s.new.turn h.begins
     h.runs (copies_of turns board g turn c.self.invariant its))
     c.self.invariant)
