@@ -19,9 +19,9 @@
 #include "guest_ram.h"
 #include "rpmb_host.h"
 
-/* A turn is so many steps of a serve; of a guest's faults so many are told; so many writes are made before a sync.
- * What came of a copy is CUT where the file was cut short. */
-enum { GUESTS = 64, REGIONS = 32, TURN = 512, TEXTS = 200, WRITES = 1024, CUT = 2 };
+/* A turn is so many steps of a serve; a ring that is stopped comes to rest within so many turns; of a guest's faults so many
+ * are told; so many writes are made before a sync. What came of a copy is CUT where the file was cut short. */
+enum { GUESTS = 64, REGIONS = 32, TURN = 512, STOP_TURNS = 1024, TEXTS = 200, WRITES = 1024, CUT = 2 };
 enum { VU_FDS = 8, VU_HEADER = 12, VU_VERSION = 1 };
 /* at whose multiples a map may begin, whatever its pages; and what a guest may take of our 128 TiB of addresses */
 #define LARGEST_PAGE (1ull << 30)
@@ -48,7 +48,7 @@ struct guest {
 	const char *name;              /* its socket, for texts */
 	uint16_t number;
 	int listener, socket, kick, call, error, requests;
-	unsigned texts, region_count, fd_count;
+	unsigned texts, region_count, fd_count, turns;
 	struct vu_region regions[REGIONS];
 	struct guest_region ram[REGIONS]; /* each where a region is mapped, behind the last place for a page of any size */
 	uint64_t features, protocol, desc, driver, device; /* the queue's areas, by guest addresses */
@@ -103,7 +103,7 @@ void guard_memory(struct guard *guard);
 bool map(struct guest *g, struct vu_region is, int fd);
 void unmap(struct guest *g, unsigned i);
 uint32_t copy(const struct guest *g, uint64_t at, uint8_t *ours, uint32_t len, bool to_guest);
-uint32_t get(struct guest *g, uint32_t offset, uint8_t width);
+void tell(struct daemon *d, int fd);
 void reset_device(struct guest *g);
 bool take_kick(struct guest *g);
 bool serve(struct guest *g);

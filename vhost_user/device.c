@@ -23,9 +23,10 @@ static void on_bus_error(int number, __attribute__((unused)) siginfo_t *what, vo
 
 void guard_memory(struct guard *guard)
 {
-	sigaltstack(&(stack_t){ .ss_sp = guard, .ss_size = sizeof *guard }, NULL);
-	sigaction(SIGBUS, &(struct sigaction){ .sa_sigaction = on_bus_error, .sa_flags = SA_SIGINFO | SA_ONSTACK | SA_NODEFER },
-	          NULL);
+	const struct sigaction how = { .sa_sigaction = on_bus_error, .sa_flags = SA_SIGINFO | SA_ONSTACK | SA_NODEFER };
+
+	if (sigaltstack(&(stack_t){ .ss_sp = guard, .ss_size = sizeof *guard }, NULL) || sigaction(SIGBUS, &how, NULL))
+		REFUSE("sigaltstack or sigaction", "the system refuses it: %s", strerror(errno));
 }
 
 /* (A function of its own: what it keeps in registers isn't lost by a jump out of it.) */
@@ -54,30 +55,29 @@ uint32_t copy(const struct guest *g, uint64_t at, uint8_t *ours, uint32_t len, b
 	return done;
 }
 
-/* Takes a region of a memory file: one of FUSE or of a network would let its owner stop whoever touches it. (No region
+/* Takes a region of a memory file, which is one that has seals: one of FUSE or of a network would let its owner stop whoever
+ * touches it, or asks what it is. Of hugetlbfs whole pages are mapped, and only such can be taken away again. (No region
  * reaches 2^64, so no copy comes round to 0.) */
 bool map(struct guest *g, struct vu_region is, int fd)
 {
 	const uint64_t skipped = is.offset % LARGEST_PAGE, end = is.guest + is.size;
-	uint64_t mapped = is.size;
+	uint64_t mapped = skipped + is.size;
 	struct statfs system;
 	struct stat file;
 	bool fits = g->region_count < REGIONS && is.size <= MOST_MAPPED && end > is.guest && is.user + is.size > is.user &&
-	            (is.guest | is.offset) % 8 == 0 && !fstat(fd, &file) && !fstatfs(fd, &system) &&
-	            S_ISREG(file.st_mode) && (system.f_type == TMPFS_MAGIC || system.f_type == HUGETLBFS_MAGIC) &&
+	            (is.guest | is.offset) % 8 == 0 && fcntl(fd, F_GET_SEALS) >= 0 && !fstat(fd, &file) && !fstatfs(fd, &system) &&
+	            (system.f_type != HUGETLBFS_MAGIC || (is.offset + is.size) % (uint64_t)system.f_bsize == 0) &&
 	            is.offset <= (uint64_t)file.st_size && is.size <= (uint64_t)file.st_size - is.offset;
 
 	for (const struct guest_region *r = g->ram; r < g->ram + g->region_count; r++) {
 		fits &= end <= r->at || is.guest >= r->at + r->len;
-		mapped += r->len;
+		mapped += g->regions[r - g->ram].offset % LARGEST_PAGE + r->len;
 	}
 	uint8_t *at = fits && mapped <= MOST_MAPPED ? mmap(NULL, skipped + is.size, PROT_READ | PROT_WRITE,
 		MAP_SHARED | MAP_NORESERVE, fd, (off_t)(is.offset - skipped)) : MAP_FAILED;
-	if (at == MAP_FAILED) {
-		COMPLAIN(g, "a region of %#" PRIx64 " bytes at %#" PRIx64 " isn't taken: it has to be its own, of a memfd or of"
-		         " a file of tmpfs or hugetlbfs, and one of %d", is.size, is.guest, REGIONS);
-		return false;
-	}
+	if (at == MAP_FAILED)
+		return COMPLAIN(g, "a region of %#" PRIx64 " bytes at %#" PRIx64 " isn't taken: it has to be its own, of a memfd or of"
+		                " a file of tmpfs or hugetlbfs (of whole pages), and one of %d", is.size, is.guest, REGIONS), false;
 	g->regions[g->region_count] = is;
 	g->ram[g->region_count++] = (struct guest_region){ is.guest, is.size, at + skipped };
 	return true;
@@ -92,22 +92,20 @@ void unmap(struct guest *g, unsigned i)
 	g->regions[i] = g->regions[g->region_count];
 }
 
-uint32_t get(struct guest *g, uint32_t offset, uint8_t width)
-{
-	return rpmb_read(&g->daemon->host, g->number, offset, width);
-}
-
+/* What it has taken is answered still, and a serve of the device as it is then does away with that: until then it would
+ * stand in the history that all guests share, of which there is room for so much. */
 void reset_device(struct guest *g)
 {
 	rpmb_stop(&g->daemon->host, g->number);
 	g->up = g->later = false;
+	g->more = rpmb_waiting(&g->daemon->host, g->number);
 	g->done = 0;
 }
 
 /* Signals an eventfd, if there is one, or what User Mode Linux has in its place: a socket (a full one has told it already).
  * A write could wait for ever: the front end may fill the counter, and take O_NONBLOCK from the description that it
  * shares. The end of an asynchronous read signals an eventfd without waiting. */
-static void tell(struct daemon *d, int fd)
+void tell(struct daemon *d, int fd)
 {
 	uint64_t one = 1;
 	struct iocb read = {
@@ -126,7 +124,6 @@ static bool bring_up(struct guest *g)
 {
 	const struct rpmb_queue its = { .descriptors = g->desc, .driver = g->driver, .device = g->device, .size = g->places };
 
-	g->done = 0;
 	g->up = rpmb_start(&g->daemon->host, g->number, g->features, &its) &&
 	        rpmb_move(&g->daemon->host, g->number, first_place(g));
 	if (g->up)
@@ -155,6 +152,10 @@ static void end_serve(struct guest *g, uint32_t fault)
 	const uint32_t line = rpmb_interrupt(&g->daemon->host, g->number);
 
 	g->later = fault == RPMB_BUSY || fault == RPMB_HISTORY_FULL || fault == RPMB_NO_MEMORY;
+	/* the shared history is full of answers of a guest whose front end keeps them from leaving: that one has to go */
+	for (struct guest *o = g->daemon->guests; fault == RPMB_HISTORY_FULL && o < g->daemon->guests + g->daemon->count; o++)
+		if (o->up && !(o->running && (o->enabled || o->stopping)) && rpmb_waiting(&o->daemon->host, o->number))
+			COMPLAIN(o, "its ring is off while answers of it wait, and there is no room for more"), drop(o);
 	if (line & VIRTIO_MMIO_INT_CONFIG) {
 		COMPLAIN(g, "its driver broke the queue's rules, and its device waits for a reset");
 		tell(g->daemon, g->error);
@@ -163,14 +164,14 @@ static void end_serve(struct guest *g, uint32_t fault)
 	rpmb_write(&g->daemon->host, g->number, VIRTIO_MMIO_INTERRUPT_ACK, 4, line);
 }
 
-/* Serves a guest until nothing is left to do, or its turn is over. */
+/* Serves a guest until nothing is left to do, or its turn is over. One that is gone has no ring, and no device in service. */
 bool serve(struct guest *g)
 {
 	struct daemon *d = g->daemon;
 	struct rpmb_next next = { .what = RPMB_AGAIN };
 
 	g->more = false;
-	if (!g->up && !bring_up(g))
+	if (!g->up && g->running && !bring_up(g))
 		return false;
 	for (unsigned steps = 0; next.what != RPMB_REST; steps++) {
 		/* others have their turn; what was read can't wait for the next, as they use the same bytes */

@@ -10,26 +10,23 @@
 
 static bool is_written(int file, const uint8_t *bytes, uint64_t at, uint64_t len)
 {
-	for (ssize_t n; len; bytes += n, at += (uint64_t)n, len -= (uint64_t)n) {
-		n = pwrite(file, bytes, len, (off_t)at);
-		if (n <= 0)
-			return false;
-	}
-	return true;
+	for (ssize_t n; len && (n = pwrite(file, bytes, len, (off_t)at)) > 0; len -= (uint64_t)n)
+		bytes += n, at += (uint64_t)n;
+	return !len;
 }
 
-/* Makes a fresh image in a file that is empty. A stop within it leaves one that is as good, or refused. */
-static void format_image(struct daemon *d, uint8_t *image, uint64_t len)
+/* Makes a fresh image in a file that is empty. A stop within it leaves one that is as good, or refused. The file's name has
+ * to last as well: an earlier run may have made the file, and ended before that. */
+static void format_image(struct daemon *d, uint8_t *image, uint64_t len, bool is_empty)
 {
 	char name[4096];
 
 	snprintf(name, sizeof name, "%s", d->disk.path);
 	const int folder = open(dirname(name), O_RDONLY | O_DIRECTORY | O_CLOEXEC);
-	const uint32_t fault = rpmb_format(d->board, d->count, image, len);
+	const uint32_t fault = is_empty ? rpmb_format(d->board, d->count, image, len) : RPMB_OK;
 
-	/* (the file's name has to last as well) */
-	if (fault != RPMB_OK || !is_written(d->disk.file, image, 0, len) || fsync(d->disk.file) || fsync(folder))
-		REFUSE(d->disk.path, "no fresh image is made: %s", fault ? rpmb_fault_text(fault) : strerror(errno));
+	if (fault != RPMB_OK || (is_empty && (!is_written(d->disk.file, image, 0, len) || fsync(d->disk.file))) || fsync(folder))
+		REFUSE(d->disk.path, "the image, or its name, isn't kept: %s", fault ? rpmb_fault_text(fault) : strerror(errno));
 	close(folder);
 }
 
@@ -68,10 +65,12 @@ void open_image(struct daemon *d, bool format)
 		REFUSE(disk->path, "another program has the image (vhost-user-rpmb or rpmbd): end that one first");
 	if (fstat(disk->file, &is) || !S_ISREG(is.st_mode))
 		REFUSE(disk->path, "it is no file that can keep an image: a plain one is wanted");
-	if (!is.st_size && format)
-		format_image(d, image, len);
-	/* what a stop left is kept before it is read, and before anybody is told of it */
-	const ssize_t n = fsync(disk->file) ? -1 : pread(disk->file, image, len + 1, 0);
+	if (format)
+		format_image(d, image, len, !is.st_size);
+	/* What a stop left is kept before it is read, and before anybody is told of it. What the system remembers of the file
+	 * goes between: behind a sync that failed it may remember bytes that the disk hasn't. */
+	const ssize_t n = fsync(disk->file) ? -1
+	                  : (posix_fadvise(disk->file, 0, 0, POSIX_FADV_DONTNEED), pread(disk->file, image, len + 1, 0));
 	if (n < 0)
 		REFUSE(disk->path, "the image isn't synced or read: %s", strerror(errno));
 	const uint32_t fault = (uint64_t)n != len ? RPMB_BAD_LENGTH : rpmb_open(d->board, d->count, image, len, &d->host);

@@ -5,7 +5,7 @@
  *
  * One board, one image; each guest has a socket. One loop waits for all of them, and a thread writes and syncs the
  * image. A front end may be hostile: what it says is checked, memory is touched only within the regions that it gave,
- * and nothing that it does makes the loop wait. docs/VHOST_USER.md says what to type. */
+ * and no read of a kick and no signal waits. docs/VHOST_USER.md says what to type, and what can wait still. */
 #include <getopt.h>
 #include <poll.h>
 #include <sys/mman.h>
@@ -38,14 +38,16 @@ static int listen_at(const char *path)
 {
 	struct sockaddr_un name = { .sun_family = AF_UNIX };
 	const int fd = socket(AF_UNIX, SOCK_STREAM | SOCK_CLOEXEC | SOCK_NONBLOCK, 0);
+	const int probe = socket(AF_UNIX, SOCK_DGRAM | SOCK_CLOEXEC, 0); /* (it can't be taken for a front end) */
 	struct stat is;
 
 	if (snprintf(name.sun_path, sizeof name.sun_path, "%s", path) >= (int)sizeof name.sun_path)
 		REFUSE(path, "a socket's path has at most %zu bytes", sizeof name.sun_path - 1);
 	/* the socket that an earlier run left goes; one at which a program listens stays, and so does any file */
-	if (!lstat(path, &is) && S_ISSOCK(is.st_mode) && connect(fd, (struct sockaddr *)&name, sizeof name) &&
+	if (!lstat(path, &is) && S_ISSOCK(is.st_mode) && connect(probe, (struct sockaddr *)&name, sizeof name) &&
 	    errno == ECONNREFUSED)
 		unlink(path);
+	close(probe);
 	if (fd < 0 || bind(fd, (struct sockaddr *)&name, sizeof name) || listen(fd, 1))
 		REFUSE(path, "the socket isn't made: %s; %s", strerror(errno), errno == EADDRINUSE
 		       ? "what is there is no socket, or a program listens at it: take another path, or end that program"
@@ -56,7 +58,7 @@ static int listen_at(const char *path)
 /* Where the program ends, a guest whose requests are all answered isn't served any more. */
 static bool is_due(const struct guest *g)
 {
-	return g->more && g->running && (g->enabled || g->stopping) &&
+	return g->more && (g->running ? g->enabled || g->stopping : !g->up) &&
 	       !(g->daemon->ends && (!g->up || rpmb_place(&g->daemon->host, g->number) != RPMB_NO_PLACE));
 }
 

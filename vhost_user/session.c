@@ -17,22 +17,20 @@
 enum answer { DONE, REFUSED, ANSWERED, LATER };
 enum { VERSION_MASK = 3, IS_REPLY = 4, NEED_REPLY = 8, NO_FD = 256 };
 
-/* The requests by their numbers, from 0 on: the fewest bytes that each has, and which bits of its first number say what
- * queue it is about (where a file descriptor comes along, 8 of them). */
+/* The requests that are supported, by their numbers: the fewest bytes that each has, and which bits of its first number say
+ * what queue it is about (where a file descriptor comes along, 8 of them). */
 #define REQUESTS(X) \
-	X(NONE, 0, 0) X(GET_FEATURES, 0, 0) X(SET_FEATURES, 8, 0) X(SET_OWNER, 0, 0) X(RESET_OWNER, 0, 0) \
-	X(SET_MEM_TABLE, 8, 0) X(SET_LOG_BASE, 0, 0) X(SET_LOG_FD, 0, 0) X(SET_VRING_NUM, 8, ~0u) X(SET_VRING_ADDR, 40, ~0u) \
-	X(SET_VRING_BASE, 8, ~0u) X(GET_VRING_BASE, 8, ~0u) X(SET_VRING_KICK, 8, 255) X(SET_VRING_CALL, 8, 255) \
-	X(SET_VRING_ERR, 8, 255) X(GET_PROTOCOL_FEATURES, 0, 0) X(SET_PROTOCOL_FEATURES, 8, 0) X(GET_QUEUE_NUM, 0, 0) \
-	X(SET_VRING_ENABLE, 8, ~0u) X(SEND_RARP, 0, 0) X(NET_SET_MTU, 0, 0) X(SET_BACKEND_REQ_FD, 0, 0) X(IOTLB_MSG, 0, 0) \
-	X(SET_VRING_ENDIAN, 0, 0) X(GET_CONFIG, 12, 0) X(SET_CONFIG, 12, 0) X(CREATE_CRYPTO_SESSION, 0, 0) \
-	X(CLOSE_CRYPTO_SESSION, 0, 0) X(POSTCOPY_ADVISE, 0, 0) X(POSTCOPY_LISTEN, 0, 0) X(POSTCOPY_END, 0, 0) \
-	X(GET_INFLIGHT_FD, 0, 0) X(SET_INFLIGHT_FD, 0, 0) X(GPU_SET_SOCKET, 0, 0) X(RESET_DEVICE, 0, 0) X(VRING_KICK, 0, 0) \
-	X(GET_MAX_MEM_SLOTS, 0, 0) X(ADD_MEM_REG, 40, 0) X(REM_MEM_REG, 40, 0) X(SET_STATUS, 8, 0) X(GET_STATUS, 0, 0)
-#define NUMBERED(name, least, queue) name,
-#define NAMED(name, least, queue)    { #name, least, queue },
+	X(GET_FEATURES, 1, 0, 0) X(SET_FEATURES, 2, 8, 0) X(SET_OWNER, 3, 0, 0) X(RESET_OWNER, 4, 0, 0) \
+	X(SET_MEM_TABLE, 5, 8, 0) X(SET_VRING_NUM, 8, 8, ~0u) X(SET_VRING_ADDR, 9, 40, ~0u) X(SET_VRING_BASE, 10, 8, ~0u) \
+	X(GET_VRING_BASE, 11, 8, ~0u) X(SET_VRING_KICK, 12, 8, 255) X(SET_VRING_CALL, 13, 8, 255) X(SET_VRING_ERR, 14, 8, 255) \
+	X(GET_PROTOCOL_FEATURES, 15, 0, 0) X(SET_PROTOCOL_FEATURES, 16, 8, 0) X(GET_QUEUE_NUM, 17, 0, 0) \
+	X(SET_VRING_ENABLE, 18, 8, ~0u) X(SET_BACKEND_REQ_FD, 21, 0, 0) X(GET_CONFIG, 24, 12, 0) X(RESET_DEVICE, 34, 0, 0) \
+	X(GET_MAX_MEM_SLOTS, 36, 0, 0) X(ADD_MEM_REG, 37, 40, 0) X(REM_MEM_REG, 38, 40, 0) X(SET_STATUS, 39, 8, 0) \
+	X(GET_STATUS, 40, 0, 0)
+#define NUMBERED(name, number, least, queue) name = number,
+#define NAMED(name, number, least, queue)    [number] = { #name, least, queue },
 enum { REQUESTS(NUMBERED) UNKNOWN };
-static const struct { const char *name; uint32_t least, queue; } requests[] = { REQUESTS(NAMED) { "unknown", 0, 0 } };
+static const struct { const char *name; uint32_t least, queue; } requests[] = { REQUESTS(NAMED) };
 
 static void shut(int *fd)
 {
@@ -74,14 +72,16 @@ void drop(struct guest *g)
 	shut(&g->socket);
 }
 
-/* Whether it can be read and signalled without waiting: a socket, or where that will do an eventfd. */
+/* Whether it can be read and signalled without waiting: a UNIX socket, or where that will do an eventfd. */
 static bool is_event(int fd, bool or_eventfd)
 {
 	char path[32], name[32] = "";
+	int family;
 
+	if (!getsockopt(fd, SOL_SOCKET, SO_DOMAIN, &family, &(socklen_t){ sizeof family }))
+		return family == AF_UNIX;
 	snprintf(path, sizeof path, "/proc/self/fd/%d", fd);
-	return readlink(path, name, sizeof name - 1) > 0 && (!strncmp(name, "socket:[", 8) || (or_eventfd &&
-	                                                     !strcmp(name, "anon_inode:[eventfd]")));
+	return or_eventfd && readlink(path, name, sizeof name - 1) > 0 && !strcmp(name, "anon_inode:[eventfd]");
 }
 
 /* Takes the file descriptor of a message, or none where it says so. */
@@ -93,6 +93,8 @@ static enum answer set_fd(struct guest *g, int *fd, bool is_ring)
 	if (g->fd_count != 1 || !is_event(g->fds[0], is_ring))
 		return REFUSED;
 	*fd = g->fds[--g->fd_count];
+	if (fd == &g->call && g->up) /* (behind its last look at the one before, that may have been told) */
+		tell(g->daemon, g->call);
 	return DONE;
 }
 
@@ -199,11 +201,11 @@ static bool send_answer(struct guest *g)
 	       (ssize_t)(VU_HEADER + g->message.size);
 }
 
-/* Answers GET_VRING_BASE, once all chains that the device took are answered. */
+/* Answers GET_VRING_BASE, once all chains that the device took are answered. A guest that goes on offering ends that. */
 bool end_stop(struct guest *g)
 {
 	if (g->up && g->running && (g->later || g->more || rpmb_waiting(&g->daemon->host, g->number)))
-		return true;
+		return !g->more || ++g->turns < STOP_TURNS || (COMPLAIN(g, "its ring doesn't come to rest"), false);
 	stop_ring(g);
 	g->base = g->message.state.num = ring_base(g);
 	return send_answer(g);
@@ -215,7 +217,7 @@ static enum answer get_config(struct guest *g)
 	const bool fits = size <= sizeof g->message.config.bytes && offset <= 256 - size && g->message.size == 12 + size;
 
 	for (uint32_t i = 0; fits && i < size; i++)
-		g->message.config.bytes[i] = (uint8_t)get(g, VIRTIO_MMIO_CONFIG + offset + i, 1);
+		g->message.config.bytes[i] = (uint8_t)rpmb_read(&g->daemon->host, g->number, VIRTIO_MMIO_CONFIG + offset + i, 1);
 	g->message.size *= fits; /* (0: an error) */
 	return ANSWERED;
 }
@@ -242,7 +244,7 @@ static enum answer perform(struct guest *g)
 	case SET_VRING_NUM: g->up &= g->places == m->state.num; g->places = m->state.num; return DONE;
 	case SET_VRING_ADDR: return set_addresses(g);
 	case SET_VRING_BASE: return set_base(g, m->state.num);
-	case GET_VRING_BASE: shut(&g->kick); g->stopping = true; return LATER;
+	case GET_VRING_BASE: shut(&g->kick); g->stopping = true; g->turns = 0; return LATER;
 	case SET_VRING_KICK: return set_kick(g);
 	case SET_VRING_CALL: return set_fd(g, &g->call, true);
 	case SET_VRING_ERR: return set_fd(g, &g->error, true);
@@ -260,7 +262,8 @@ static enum answer perform(struct guest *g)
 			reset(g);
 		g->status = (uint8_t)m->number;
 		return DONE;
-	case GET_STATUS: return give(g, g->status | (get(g, VIRTIO_MMIO_STATUS, 4) & VIRTIO_CONFIG_S_NEEDS_RESET));
+	case GET_STATUS:
+		return give(g, g->status | (rpmb_read(&g->daemon->host, g->number, VIRTIO_MMIO_STATUS, 4) & VIRTIO_CONFIG_S_NEEDS_RESET));
 	default: return REFUSED;
 	}
 }
@@ -273,8 +276,8 @@ static bool answer(struct guest *g)
 	close_fds(g);
 	g->have = 0;
 	if (a == REFUSED)
-		COMPLAIN(g, "request %u (%s) of %u bytes is refused, or not supported", request,
-		         requests[request < UNKNOWN ? request : UNKNOWN].name, size);
+		COMPLAIN(g, "request %u (%s) of %u bytes is refused", request,
+		         request < UNKNOWN && requests[request].name ? requests[request].name : "not supported", size);
 	/* (User Mode Linux asks for an answer in the very message that negotiates it) */
 	if (a == LATER || (a != ANSWERED && !(asks && g->protocol & REPLY_ACK)))
 		return a != REFUSED;
