@@ -65,7 +65,7 @@ static int keep(uint64_t at, const unsigned char *bytes, size_t len)
 static void open_board(void)
 {
 	if (file >= 0)
-		check(pread(file, image, length, 0) == (ssize_t)length, "pread");
+		check(fsync(file) == 0 && pread(file, image, length, 0) == (ssize_t)length, "the image is read");
 	check_fault(rpmb_open(board, 1, image, length, &host));
 }
 
@@ -89,7 +89,8 @@ static void set_line(void)
 }
 
 /* Does what a serve of the guest asks for, until it rests: the loop that a monitor copies. A fault ends nothing: the
- * guest goes on. Where memory was refused, its chain is tried first at the next serve. Whether a sync is awaited. */
+ * guest goes on. Behind RPMB_NO_MEMORY a timer serves it again, which isn't shown here: its driver kicks no more for what
+ * it offered. Whether a sync is awaited. */
 static int serve(int *all)
 {
 	static unsigned char bytes[RPMB_LARGEST_PART];
