@@ -4,15 +4,16 @@ use Rattle.std.proofs.Common.{ap, sym, ◌∙◌, subst}
 use Rattle.flusher.proofs.Common.{if◌then◌else◌, Group, Intent, Phase, Given, Written, Ready}
 use Rattle.flusher.proofs.Common.{Opening, Open, Applying, Applied, Closing, Slot, Guest, Turn}
 use Rattle.flusher.proofs.Common.{First, Second, Neither, is_opening, is_settled, is_empty}
-use Rattle.flusher.proofs.Common.{pending_of, opening_in, in_phase}
-use Rattle.flusher.proofs.Common.{after_sync, or_else, mark_of, marked}
+use Rattle.flusher.proofs.Common.{intent_of, slot_writes, pending_of, opening_in, in_phase}
+use Rattle.flusher.proofs.Common.{after_sync, behind_writes, or_else, mark_of, marked}
 use Rattle.flusher.proofs.Common.{moved_up, moved_in, turn_of, with_slots, given_at}
-use Rattle.flusher.proofs.Common.{Besides}
+use Rattle.flusher.proofs.Common.{guest_after_write, Besides}
 use Rattle.flusher.proofs.Common.{PhaseBesides}
 use Rattle.flusher.specs.Phase.{synced}
 use Rattle.flusher.specs.Pair.{listed, pending_intents, opening_of}
 use Rattle.flusher.specs.Laws.{PendingStays, PendingGrows, PendingSettles, Settles}
-use Rattle.flusher.proofs.Turns.{pending_written}
+use Rattle.flusher.proofs.Turns.{pending_written, intent_written, turn_behind, first_writes_besides}
+use Rattle.flusher.proofs.Turns.{behind_writes_besides}
 
 -- 1. A write
 
@@ -170,3 +171,26 @@ pending_settles x b = (
       (slots_settle x.slot x.behind b),
   moved_up_mark x (marked x) (after_sync x.slot) (after_sync x.behind),
 )
+
+-- 4. What holds of each intent in a slot, and how far the slot behind is, stays over a write
+
+module _ (P : Option Intent → Type 0) (x : Guest) where
+  abbrev Keeps : Guest → Type 0
+  Keeps y = P (intent_of y.slot) × P (intent_of y.behind) × Besides y.slot y.behind
+
+  turn_keeps : (t : Turn) → turn_of x ≡ t → Keeps x → Keeps (moved_in t x)
+  turn_keeps First is k = (
+    subst P (sym (intent_written x.slot)) k.0,
+    k.1,
+    first_writes_besides x.slot x.behind k.2,
+  )
+  turn_keeps Second is k = (
+    k.0,
+    subst P (sym (intent_written x.behind)) k.1,
+    behind_writes_besides x.slot x.behind k.2
+        (turn_behind (slot_writes x.slot) (behind_writes x.slot x.behind) is),
+  )
+  turn_keeps Neither is k = k
+
+  pub write_keeps : Keeps x → Keeps (guest_after_write x)
+  write_keeps k = turn_keeps (turn_of x) refl k

@@ -2,7 +2,7 @@
 use Rattle.std.proofs.Common.{◌≡◌, ◌≢◌, Bool, true, Option, Some, None, arith}
 use Rattle.flusher.proofs.Common.{if◌then◌else◌, Content, Side, Region, SlotRegion, IsSlotRegion}
 use Rattle.flusher.proofs.Common.{slot_region, other_side, Group, Part, Closing, Slot, Second}
-use Rattle.flusher.proofs.Common.{has_write, slot_write, after_write, pending_of}
+use Rattle.flusher.proofs.Common.{has_write, slot_write, after_write, intent_of, pending_of}
 use Rattle.flusher.proofs.Common.{opening_in, or_else, is_let_beside, behind_writes, Row, Seen}
 use Rattle.flusher.proofs.Common.{Behind, BehindRow, BehindSeen, LeadsTo, Besides}
 use Rattle.std.specs.Prelude.{◌&&◌}
@@ -23,11 +23,24 @@ and_right a b is = grind arith
 pub pending_written : (slot : Option Slot) → pending_of (after_write slot) ≡ pending_of slot
 pending_written slot = grind arith
 
+pub intent_written : (slot : Option Slot) → intent_of (after_write slot) ≡ intent_of slot
+intent_written slot = grind arith
+
 pub leads_written : (between : Part) (behind : Option Slot) (p : Part) → LeadsTo between behind p
     → LeadsTo between (after_write behind) p
 leads_written between behind p l = grind arith
 
--- The write of the slot behind, and both rows
+-- 1. How far the slot behind may be
+
+pub first_writes_besides : (first behind : Option Slot) → Besides first behind
+    → Besides (after_write first) behind
+first_writes_besides first behind b = grind arith
+
+pub behind_writes_besides : (first behind : Option Slot) → Besides first behind
+    → behind_writes first behind ≡ true → Besides first (after_write behind)
+behind_writes_besides first behind b w = grind arith
+
+-- 2. The write of the slot behind, and both rows
 
 module _ (paired : Bool) (region : Region) (side : Side) (between : Part) (c d : Content) where
   abbrev mine : SlotRegion
