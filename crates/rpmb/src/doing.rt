@@ -17,6 +17,7 @@ use rpmb_commands::{
     report_with_advice,
 };
 use script::read_number;
+use std::alloc::AllocError;
 use std::io::{BufWriter, Write};
 use std::mem::replace;
 
@@ -240,27 +241,61 @@ fn write<W: Write>(
     ask(rt, place, disk, &mut words, out)
 }
 
-/// Performs an operation on the image of a board.
+/// The hex digits of the key that the words name first; none where they name no key.
+fn key_digits(rt: &HostRuntime, words: &Words<'_>) -> Result<String, Stop> {
+    if words.key().is_none() {
+        return Ok(String::new(rt.alloc()));
+    }
+    let key = match key(rt.alloc(), &System { rt }, words.key()) {
+        Ok(key) => key,
+        Err(refusal) => {
+            let status = report_with_advice(words, refusal, &mut rt.stderr());
+            return Err(Stop { status });
+        }
+    };
+    match hex::encode(rt.alloc(), &key) {
+        Ok(digits) => Ok(digits),
+        Err(_) => Err(told(rt, Refusal::NoMemory)),
+    }
+}
+
+/// As many words of a key as were given, each of these digits: `explain` refuses more than one.
+fn keys_by<'a>(rt: &HostRuntime, many: usize, digits: &'a str) -> Result<Vec<&'a str>, AllocError> {
+    let mut keys = Vec::new(rt.alloc());
+    for _word in 0..many {
+        keys.push(digits)?;
+    }
+    Ok(keys)
+}
+
+/// Performs an operation on the image of a board. The file of its key is read once, before a request
+/// is made: by what it held the answer is judged, too, also where it was a pipe.
 fn operate_on<'a, W: Write>(
     rt: &HostRuntime,
     place: &Place<'_>,
     operation: &'a str,
-    words: &mut Words<'a>,
+    words: &Words<'a>,
     out: &mut W,
 ) -> Result<(), Stop> {
     let disk = place.open(rt)?;
+    let digits = key_digits(rt, words)?;
+    let Ok(keys) = keys_by(rt, words.keys.len(), digits.as_str()) else {
+        return Err(told(rt, Refusal::NoMemory));
+    };
+    let mut words = Words {
+        command: operation,
+        keys,
+        ..*words
+    };
     match operation {
-        "read" => read(rt, place, disk, words, out),
-        "write" => write(rt, place, disk, words, out),
-        _ => {
-            words.command = operation;
-            ask(rt, place, disk, words, out)
-        }
+        "read" => read(rt, place, disk, &mut words, out),
+        "write" => write(rt, place, disk, &mut words, out),
+        _ => ask(rt, place, disk, &mut words, out),
     }
 }
 
 /// Performs the operation of words that have a nonce.
-fn operate<W: Write>(rt: &HostRuntime, words: &mut Words<'_>, out: &mut W) -> Result<(), Stop> {
+fn operate<W: Write>(rt: &HostRuntime, words: &Words<'_>, out: &mut W) -> Result<(), Stop> {
     let (Some(file), Some(operation)) = (words.board, words.operation) else {
         return Err(told(rt, Refusal::Option(OptionRefusal::Incomplete)));
     };
@@ -277,11 +312,11 @@ fn operate_once<W: Write>(rt: &HostRuntime, words: Words<'_>, out: &mut W) -> Re
         Ok(nonce) => nonce,
         Err(refusal) => return Err(told(rt, refusal)),
     };
-    let mut words = Words {
+    let words = Words {
         nonce: Some(nonce.as_str()),
         ..words
     };
-    operate(rt, &mut words, out)
+    operate(rt, &words, out)
 }
 
 /// Performs an operation on the image of a board, and gives the program's status: 0, or 1 or 3 with
