@@ -35,8 +35,12 @@ fn after_failure(command: Command<'_>) -> &'static str {
             "What stands there may be no image: make room, and format it again, without --new"
         }
         Command::Show { .. } => "What it keeps stays",
-        Command::Upgrade { .. } => "What it keeps stays: make room, and upgrade it again",
-        _ => "Ask for the counters before you go on",
+        Command::Upgrade { .. } => {
+            "What it keeps stays: make room, restart the machine if a sync failed, and upgrade it again"
+        }
+        _ => {
+            "If a sync failed restart the machine first; then ask for the counters before you go on"
+        }
     }
 }
 

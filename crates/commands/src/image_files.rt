@@ -293,9 +293,9 @@ fn set_length(
 }
 
 /// The file of an image that is to be made, cut or made longer to `len` bytes, and no other
-/// program's until it is closed. It is made where it isn't there, for its owner alone, and the
-/// folder is synced then; a file that is there keeps its mode, and is refused where `only_new` says
-/// so, with `FileFault` as all that follows. It is refused where it can't be opened
+/// program's until it is closed. It is made where it isn't there, for its owner alone; where it has
+/// no byte yet, its folder is synced. A file that is there keeps its mode, and is refused where
+/// `only_new` says so, with `FileFault` as all that follows. It is refused where it can't be opened
 /// for reading and writing, where another program holds it, where it is the board file, whose path
 /// is `board`, or what standard output writes into: then its bytes stay; or where the folder can't
 /// be synced, or the length can't be set, or is beyond what this process may write.
@@ -318,7 +318,8 @@ pub fn create_image(
     if leads_to(rt, board, &metadata) {
         return Err(refused(rt, path, IS_BOARD));
     }
-    if is_new && sync_folder(rt, path).is_err() {
+    // (a file of no bytes may be what a stop left of such a call, before that)
+    if (is_new || metadata.len() == 0) && sync_folder(rt, path).is_err() {
         return Err(refused(rt, path, "its folder can't be synced"));
     }
     set_length(rt, path, &file, is_new, len)?;
