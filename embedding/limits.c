@@ -363,8 +363,9 @@ static void check_memory(void)
 
 /* 3. What happens between two calls of a serve. */
 
-/* A serve whose `at`-th copy finds no RAM: this device alone stops, and a reset heals it. Whether there was one. */
-static int check_absent(struct driver *d, struct driver *other, int packed, int at)
+/* A serve whose `at`-th copy finds no RAM, and where `stays` says so each behind it: this device alone stops, is asked for
+ * no more, and a reset heals it. Whether there was one. */
+static int check_absent(struct driver *d, struct driver *other, int packed, int at, int stays)
 {
 	int copies = 0, was_there = 0;
 
@@ -373,7 +374,8 @@ static int check_absent(struct driver *d, struct driver *other, int packed, int 
 	offer_key(d);
 	for (d->done = 0, call(d); d->next.what != RPMB_REST || d->next.sync; call(d)) {
 		was_there |= copies == at && (d->next.what == RPMB_READ || d->next.what == RPMB_WRITE);
-		copies += copy(d, copies != at);
+		copies += copy(d, stays ? copies < at : copies != at);
+		check(copies < 1000, "a serve comes to an end");
 		if (d->next.what == RPMB_REST)
 			check_fault(rpmb_completed(&host, 1), RPMB_OK, "rpmb_completed");
 	}
@@ -443,8 +445,11 @@ static void check_between(void)
 	for (int packed = 0; packed < 2; packed++) {
 		for (copies = 0;; copies++) {
 			open_fresh(guests, 2);
-			if (!check_absent(&drivers[0], &drivers[1], packed, copies))
+			if (!check_absent(&drivers[0], &drivers[1], packed, copies, 1))
 				break;
+			close_board(2);
+			open_fresh(guests, 2);
+			check_absent(&drivers[0], &drivers[1], packed, copies, 0);
 			close_board(2);
 		}
 		check(copies >= 7, "each copy of a key's serve is refused");
@@ -564,7 +569,9 @@ static void check_going_on(int packed)
 	open_anew(guests, 2);
 	check(rpmb_start(&host, 1, features, &queue) == 1, "rpmb_start");
 	check(!packed || !rpmb_move(&host, 1, 4), "a place behind the last one");
+	check(rpmb_interrupt(&host, 1) == 0, "a device in service, and nothing to tell");
 	check(rpmb_move(&host, 1, (uint16_t)first) == 1, "rpmb_move");
+	check(rpmb_interrupt(&host, 1) == 1, "its driver looks at what was used before");
 	check_next(d, second);
 	negotiate(d, 4, packed);
 	offer_key(d);

@@ -211,15 +211,15 @@ module _ (guest : ℕ) where
   learned b g a h a' ps none (Sees x x' sees) are =
       copied_by (known a) (known a') ps (notified_of a.device.queue a false a' sees) are
 
-  popped : (most : ℕ) (answer : Answer) (b : Boards) (qs : List Range) (c : Boards)
-      → PopsOne guest most answer b qs c → HasParts guest qs b
-  popped most answer b qs c pops = elim pops.parts_are [
-    | inl writes ↦ subst (λ ps. HasParts guest ps b) (sym writes.all)
+  popped : (most : ℕ) (v w : Bool) (answer : Answer) (b : Boards) (qs : List Range) (c : Boards)
+      → PopsOne guest most v answer b qs w c → HasParts guest qs b
+  popped most v w answer b qs c pops = elim pops.parts_are [
+    | inl writes ↦ subst (λ ps. HasParts guest ps b) (sym writes.0.all)
         (copied_at guest (pop_parts pops.device.device) b pops.device pops.its
-        (event_copied pops.device writes.live
-        (subst (λ (x : Answer). SeesBy x pops.device) writes.gave
+        (event_copied pops.device writes.0.live
+        (subst (λ (x : Answer). SeesBy x pops.device) writes.0.gave
         (subst (λ o. IfSome o (SeesBy answer)) pops.its (pops.makes.sees pops.empty))).1))
-    | inr none ↦ subst (λ ps. HasParts guest ps b) (sym none.0) (none_copied guest b)
+    | inr leaves ↦ subst (λ ps. HasParts guest ps b) (sym leaves.none) (none_copied guest b)
   ]
 
   handed : (b : Boards) (qs : List Range) (c : Boards) → HandsOne guest b qs c
@@ -239,25 +239,25 @@ module _ (guest : ℕ) where
   runs_copied most s t a b (Then q r x y z o answer runs share makes) has =
       copied_same guest r.parts y z (ap (λ ks. slice_get ks guest) makes.held)
       (runs_copied most q r x y runs has)
-  runs_copied most s t a b (Pops q r x y z answer runs pops) has =
+  runs_copied most s t a b (Pops q r l m x y z answer runs pops) has =
       copied_same guest r y z (ap (λ ks. slice_get ks guest) pops.makes.held)
-      (popped most answer y r z pops)
-  runs_copied most s t a b (Hands q r x y z runs hands) has = handed y r z hands
-  runs_copied most s t a b (LearnsOf q r g h x y z none runs knows) has =
+      (popped most l m answer y r z pops)
+  runs_copied most s t a b (Hands q r l x y z runs hands) has = handed y r z hands
+  runs_copied most s t a b (LearnsOf q r g h l x y z none runs knows) has =
       copied_set guest r y z knows.device knows.device' knows.its
       (ap (λ (v : Boards). v.devices) knows.after)
       (learned y g knows.device h knows.device' r none knows.learns
-      (copied_of guest r y knows.device knows.its (runs_copied most q (standing r g) x y runs has)))
-  runs_copied most s t a b (GivesUp q r g x y runs) has = runs_copied most q
-      (standing r g) x y runs has
-  runs_copied most s t a b (Calls q r x y z runs notified) has =
+      (copied_of guest r y knows.device knows.its (runs_copied most q (standing r g l) x y runs has)))
+  runs_copied most s t a b (GivesUp q r g l x y runs) has = runs_copied most q
+      (standing r g l) x y runs has
+  runs_copied most s t a b (Calls q r l x y z runs notified) has =
       copied_set guest r y z notified.device notified.device' notified.its
       (ap (λ (v : Boards). v.devices) notified.after)
       (copied_by (known notified.device) (known notified.device') r
       (notified_of notified.device.device.queue notified.device true notified.device' notified.sees)
       (copied_of guest r y notified.device notified.its
-      (runs_copied most q (standing r true) x y runs has)))
-  runs_copied most s t a b (Voids q r g x y z runs why refuses) has = none_copied guest z
+      (runs_copied most q (standing r true l) x y runs has)))
+  runs_copied most s t a b (Voids q r g l x y z runs why refuses) has = none_copied guest z
 
   pub begins_copied : (s t : Stand) (a b : Boards) → Begins guest s a t b
       → HasParts guest s.parts a → HasParts guest t.parts b
@@ -291,21 +291,21 @@ module _ (guest k : ℕ) (other : k ≢ guest) where
   runs_know most s t a b (Still r d) = refl
   runs_know most s t a b (Then q r x y z o answer runs share makes) =
       ap (λ ks. slice_get ks k) makes.held ∙ runs_know most q r x y runs
-  runs_know most s t a b (Pops q r x y z answer runs pops) =
-      ap (λ ks. slice_get ks k) pops.makes.held ∙ runs_know most q (standing [] true) x y runs
-  runs_know most s t a b (Hands q r x y z runs hands) =
+  runs_know most s t a b (Pops q r l m x y z answer runs pops) =
+      ap (λ ks. slice_get ks k) pops.makes.held ∙ runs_know most q (standing [] true l) x y runs
+  runs_know most s t a b (Hands q r l x y z runs hands) =
       set_know y z hands.hands.device' (ap (λ (v : Boards). v.devices) hands.hands.after)
-      ∙ runs_know most q (standing [] true) x y runs
-  runs_know most s t a b (LearnsOf q r g h x y z none runs knows) =
+      ∙ runs_know most q (standing [] true l) x y runs
+  runs_know most s t a b (LearnsOf q r g h l x y z none runs knows) =
       set_know y z knows.device' (ap (λ (v : Boards). v.devices) knows.after)
-      ∙ runs_know most q (standing r g) x y runs
-  runs_know most s t a b (GivesUp q r g x y runs) = runs_know most q (standing r g) x y runs
-  runs_know most s t a b (Calls q r x y z runs notified) =
+      ∙ runs_know most q (standing r g l) x y runs
+  runs_know most s t a b (GivesUp q r g l x y runs) = runs_know most q (standing r g l) x y runs
+  runs_know most s t a b (Calls q r l x y z runs notified) =
       set_know y z notified.device' (ap (λ (v : Boards). v.devices) notified.after)
-      ∙ runs_know most q (standing r true) x y runs
-  runs_know most s t a b (Voids q r g x y z runs why refuses) =
+      ∙ runs_know most q (standing r true l) x y runs
+  runs_know most s t a b (Voids q r g l x y z runs why refuses) =
       set_know y z _ (ap (λ (v : Boards). v.devices) refuses.after)
-      ∙ runs_know most q (standing r g) x y runs
+      ∙ runs_know most q (standing r g l) x y runs
 
   pub begins_know : (s t : Stand) (a b : Boards) → Begins guest s a t b → Know a b
   begins_know s t a b (GoesOn same left) =

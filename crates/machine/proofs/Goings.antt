@@ -16,7 +16,7 @@ use Rattle.machine.specs.Ending.{IsTaken}
 use Rattle.machine.specs.declared.taking.Taken.{Taken}
 use Rattle.machine.specs.declared.taking.Taken.TheVariants as taken
 use Rattle.machine.specs.Ending.{BookRefused, Lacks, Looks, NeedsNext, NotifiesNext, PopRefused}
-use Rattle.machine.specs.Ending.{RestsAt, SawAll}
+use Rattle.machine.specs.Ending.{RestsAt, SawAll, SawUsed}
 use Rattle.machine.specs.Ending.{Went, left_by}
 use Rattle.machine.specs.declared.fault.MachineFault.TheVariants as fault
 use Rattle.machine.specs.Serving.{HasStopped, KeepsWaiting, SameDevices}
@@ -59,24 +59,24 @@ module _ (a a' : AskingState) where
   not_notified does = not_of a.device.queue does
 
   seen_where : (b : Bool) (q : QueueState) → a.device.queue ≡ Some q
-      → nat_le q.ring.used a.told ≡ b → NotifiesWhere b q a (Ok false) a' → SawAll a'
+      → nat_le q.ring.used a.told ≡ b → NotifiesWhere b q a (Ok false) a' → SawUsed a'
   seen_where true q its le does =
-      subst SawAll (sym does.1)
+      subst SawUsed (sym does.1)
       (subst (λ o. IfSome o (λ k. nat_le k.ring.used a.told ≡ true)) (sym its) le)
   seen_where false q its le does =
-      subst SawAll (sym does.after)
+      subst SawUsed (sym does.after)
       (subst (λ o. IfSome o (λ k. nat_le k.ring.used q.ring.used ≡ true)) (sym its)
       (all_of q.ring.used))
 
   seen_of : (o : Option QueueState) → a.device.queue ≡ o → NotifiesOf o a (Ok false) a'
-      → SawAll a'
+      → SawUsed a'
   seen_of None its does =
-      subst SawAll (sym does.1)
+      subst SawUsed (sym does.1)
       (subst (λ o. IfSome o (λ k. nat_le k.ring.used a.told ≡ true)) (sym its) tt)
   seen_of (Some q) its does = seen_where (nat_le q.ring.used a.told) q its refl does
 
   pub saw_all : Notifies a (Ok false) a' → SawAll a'
-  saw_all does = seen_of a.device.queue refl does
+  saw_all does = λ going. seen_of a.device.queue refl does
 
 -- 2. Moves
 
@@ -86,7 +86,8 @@ then_stopped guest most s t u a b c first stopped = record {
   before = stopped.before;
   parts = stopped.parts;
   going = stopped.going;
-  runs = runs_twice guest most s t (standing stopped.parts stopped.going) a b stopped.before first
+  looked = stopped.looked;
+  runs = runs_twice guest most s t (standing stopped.parts stopped.going stopped.looked) a b stopped.before first
       stopped.runs;
   went_on = stopped.went_on;
   why = stopped.why;
@@ -100,8 +101,10 @@ module _ (guest most : ℕ) where
       → Looks guest most s a v d
   then_looks s t v a b d first looks = record {
     before = looks.before;
-    first = runs_twice guest most s t (standing [] true) a b looks.before first looks.first;
-    parts = looks.parts;
+    looked = looks.looked;
+    first = runs_twice guest most s t (standing [] true looks.looked) a b looks.before first
+        looks.first;
+    looked' = looks.looked';
     after = looks.after;
     pops = looks.pops;
     rest = looks.rest;
@@ -111,28 +114,30 @@ module _ (guest most : ℕ) where
       → Looks guest most s a v d
   looks_then s t v a b d looks more = record {
     before = looks.before;
+    looked = looks.looked;
     first = looks.first;
-    parts = looks.parts;
+    looked' = looks.looked';
     after = looks.after;
     pops = looks.pops;
-    rest = runs_twice guest most (standing looks.parts false) t v looks.after b d looks.rest more;
+    rest = runs_twice guest most (standing [] false looks.looked') t v looks.after b d looks.rest
+        more;
   }
 
 module _ (guest most : ℕ) (f : MachineFault) where
   pub then_reason : (s t v : Stand) (a b d : Boards) → Runs guest most s a t b
       → HasReason guest most f t b v d → HasReason guest most f s a v d
-  then_reason s t v a b d first (PopRefused x y e before makes is after) =
-      PopRefused x y e (runs_twice guest most s t
-      (standing [] true) a b x first before) makes is after
+  then_reason s t v a b d first (PopRefused l m x y e before makes is after) =
+      PopRefused l m x y e (runs_twice guest most s t
+      (standing [] true l) a b x first before) makes is after
   then_reason s t v a b d first (BookRefused w x y e before makes is after) =
       BookRefused w x y e (runs_twice guest most s t w a b x first before) makes is after
   then_reason s t v a b d first (Lacks is) = Lacks is
 
   pub reason_then : (s t v : Stand) (a b d : Boards) → HasReason guest most f s a t b
       → Runs guest most t b v d → HasReason guest most f s a v d
-  reason_then s t v a b d (PopRefused x y e before makes is after) more =
-      PopRefused x y e before makes is
-      (runs_twice guest most (standing [] false) t v y b d after more)
+  reason_then s t v a b d (PopRefused l m x y e before makes is after) more =
+      PopRefused l m x y e before makes is
+      (runs_twice guest most (standing [] false m) t v y b d after more)
   reason_then s t v a b d (BookRefused w x y e before makes is after) more =
       BookRefused w x y e before makes is (runs_twice guest most w t v y b d after more)
   reason_then s t v a b d (Lacks is) more = Lacks is
@@ -299,7 +304,7 @@ module _ (guest most : ℕ) where
       → NotifiesNext guest b o → NeedsNext guest most s z t b o
   notified_needs s z t b None needs = tt
   notified_needs s z t b (Some next.Again) needs = tt
-  notified_needs s z t b (Some (next.Read ask)) needs = needs
+  notified_needs s z t b (Some (next.Read ask)) needs = needs.0
   notified_needs s z t b (Some (next.Write part)) needs = tt
   notified_needs s z t b (Some next.Call) needs = tt
   notified_needs s z t b (Some (next.Rest f)) needs = absurd needs

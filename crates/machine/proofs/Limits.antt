@@ -240,19 +240,19 @@ module _ (g most : ℕ) where
   runs_limit s t a b (Then q r x y z o answer runs share makes) =
       limit_twice g most x.rest y.rest z.rest (runs_limit q r x y runs)
       (step_limit o answer y z share makes)
-  runs_limit s t a b (Pops q r x y z answer runs pops) =
-      limit_twice g most x.rest y.rest z.rest (runs_limit q (standing [] true) x y runs)
+  runs_limit s t a b (Pops q r l m x y z answer runs pops) =
+      limit_twice g most x.rest y.rest z.rest (runs_limit q (standing [] true l) x y runs)
       (limit_one g most y.rest z.rest pops.fewer (popped_waits g answer y z pops.makes))
-  runs_limit s t a b (Hands q r x y z runs hands) =
-      limit_twice g most x.rest y.rest z.rest (runs_limit q (standing [] true) x y runs)
+  runs_limit s t a b (Hands q r l x y z runs hands) =
+      limit_twice g most x.rest y.rest z.rest (runs_limit q (standing [] true l) x y runs)
       (inl (handed_waits g hands.published y z hands.hands))
-  runs_limit s t a b (LearnsOf q r v w x y z none runs knows) =
-      limit_twice g most x.rest y.rest z.rest (runs_limit q (standing r v) x y runs)
+  runs_limit s t a b (LearnsOf q r v w l x y z none runs knows) =
+      limit_twice g most x.rest y.rest z.rest (runs_limit q (standing r v l) x y runs)
       (limit_same g most y.rest z.rest (ap (λ b. b.rest) knows.after))
-  runs_limit s t a b (GivesUp q r v x y runs) = runs_limit q (standing r v) x y runs
-  runs_limit s t a b (Calls q r x y z runs notified) =
-      limit_twice g most x.rest y.rest z.rest (runs_limit q (standing r true) x y runs)
+  runs_limit s t a b (GivesUp q r v l x y runs) = runs_limit q (standing r v l) x y runs
+  runs_limit s t a b (Calls q r l x y z runs notified) =
+      limit_twice g most x.rest y.rest z.rest (runs_limit q (standing r true l) x y runs)
       (limit_same g most y.rest z.rest (ap (λ b. b.rest) notified.after))
-  runs_limit s t a b (Voids q r v x y z runs why refuses) =
-      limit_twice g most x.rest y.rest z.rest (runs_limit q (standing r v) x y runs)
+  runs_limit s t a b (Voids q r v l x y z runs why refuses) =
+      limit_twice g most x.rest y.rest z.rest (runs_limit q (standing r v l) x y runs)
       (limit_same g most y.rest z.rest (ap (λ b. b.rest) refuses.after))

@@ -18,10 +18,10 @@ moved b guest d = record b { devices = slice_set b.devices guest d }
 
 module _ (guest : ℕ) (b : Boards) (d d' : AskingState)
     (its : slice_get b.devices guest ≡ Some d) where
-  pub moved_runs : (most : ℕ) (ps : List Range) (g h : Bool) → (g ≡ false → h ≡ true → ps ≡ [])
+  pub moved_runs : (most : ℕ) (ps : List Range) (g h v : Bool) → (g ≡ false → h ≡ true → ps ≡ [])
       → Learns guest b g d h d'
-      → Runs guest most (standing ps g) b (standing ps h) (moved b guest d')
-  moved_runs most ps g h none learns = runs_knows guest most ps g h b (moved b guest d') none
+      → Runs guest most (standing ps g v) b (standing ps h v) (moved b guest d')
+  moved_runs most ps g h v none learns = runs_knows guest most ps g h v b (moved b guest d') none
       (record {
         device = d;
         its = its;
@@ -46,16 +46,16 @@ module _ (guest : ℕ) (b : Boards) (d d' : AskingState)
       (ap (slice_set b.devices guest) same ∙ set_same b.devices guest d its)
 
   -- bytes were told, or there was no memory for them
-  pub told_runs : {X : Type 0} (most : ℕ) (ps : List Range) (g : Bool) (part : Range)
+  pub told_runs : {X : Type 0} (most : ℕ) (ps : List Range) (g v : Bool) (part : Range)
       (zeros : List ℕ) (r : Result X MemFault) → IsToWrite guest b d part → length zeros ≤ part.len
       → All (λ v. v ≡ 0) zeros → OnOk r (d' ≡ after_told d part.at zeros) → OnErr r (d' ≡ d)
-      → Runs guest most (standing ps g) b (standing ps g) (moved b guest d')
-  told_runs most ps g part zeros (Ok x) own few all ok err =
-      moved_runs most ps g g (λ off on. absurd (let a = off in let b_ = on in cc))
+      → Runs guest most (standing ps g v) b (standing ps g v) (moved b guest d')
+  told_runs most ps g v part zeros (Ok x) own few all ok err =
+      moved_runs most ps g g v (λ off on. absurd (let a = off in let b_ = on in cc))
       (Tells g d d' part zeros own few all ok)
-  told_runs most ps g part zeros (Err e) own few all ok err =
-      subst (λ v. Runs guest most (standing ps g) b (standing ps g) v) (sym (moved_none err))
-      (Still (standing ps g) b)
+  told_runs most ps g v part zeros (Err e) own few all ok err =
+      subst (λ x. Runs guest most (standing ps g v) b (standing ps g v) x) (sym (moved_none err))
+      (Still (standing ps g v) b)
 
   pub told_queues : {X : Type 0} (at : ℕ) (bytes : List ℕ) (r : Result X MemFault)
       → OnOk r (d' ≡ after_told d at bytes) → OnErr r (d' ≡ d) → QueuesStay b (moved b guest d')

@@ -193,25 +193,25 @@ module _ (guest : ℕ) where
       stays_twice outbox_state OutboxMakes guest (board_of x) (board_of y) (board_of z)
       (others_stay most q r x y runs)
       (one_stays o answer y (board_of y) (board_of z) share makes.steps.does)
-  others_stay most s t a b (Pops q r x y z answer runs pops) =
+  others_stay most s t a b (Pops q r l m x y z answer runs pops) =
       stays_twice outbox_state OutboxMakes guest (board_of x) (board_of y) (board_of z)
-      (others_stay most q (standing [] true) x y runs)
+      (others_stay most q (standing [] true l) x y runs)
       (pop_stays outbox_state OutboxMakes guest (board_of y) answer (board_of z) _ _
       pops.makes.steps.does)
-  others_stay most s t a b (Hands q r x y z runs hands) =
+  others_stay most s t a b (Hands q r l x y z runs hands) =
       stays_twice outbox_state OutboxMakes guest (board_of x) (board_of y) (board_of z)
-      (others_stay most q (standing [] true) x y runs) (hands_stay y z r hands)
-  others_stay most s t a b (LearnsOf q r g h x y z none runs knows) =
+      (others_stay most q (standing [] true l) x y runs) (hands_stay y z r hands)
+  others_stay most s t a b (LearnsOf q r g h l x y z none runs knows) =
       stays_twice outbox_state OutboxMakes guest (board_of x) (board_of y) (board_of z)
-      (others_stay most q (standing r g) x y runs) (known_stays g h y z knows)
-  others_stay most s t a b (GivesUp q r g x y runs) = others_stay most q (standing r g) x y runs
-  others_stay most s t a b (Calls q r x y z runs notified) =
+      (others_stay most q (standing r g l) x y runs) (known_stays g h y z knows)
+  others_stay most s t a b (GivesUp q r g l x y runs) = others_stay most q (standing r g l) x y runs
+  others_stay most s t a b (Calls q r l x y z runs notified) =
       stays_twice outbox_state OutboxMakes guest (board_of x) (board_of y) (board_of z)
-      (others_stay most q (standing r true) x y runs)
+      (others_stay most q (standing r true l) x y runs)
       (device_stays y z notified.device' notified.after)
-  others_stay most s t a b (Voids q r g x y z runs why refuses) =
+  others_stay most s t a b (Voids q r g l x y z runs why refuses) =
       stays_twice outbox_state OutboxMakes guest (board_of x) (board_of y) (board_of z)
-      (others_stay most q (standing r g) x y runs) (device_stays y z _ refuses.after)
+      (others_stay most q (standing r g l) x y runs) (device_stays y z _ refuses.after)
 
   pub begins_stay : (s t : Stand) (a b : Boards) → Begins guest s a t b
       → OthersStay guest (board_of a) (board_of b)

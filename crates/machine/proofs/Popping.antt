@@ -1,5 +1,5 @@
 -- What a pop of the guest's device comes to.
-use Rattle.std.proofs.Common.{◌≡◌, ◌<◌, ap, sym, subst, ◌∙◌, ℕ, Bool, true, false}
+use Rattle.std.proofs.Common.{◌≡◌, ◌<◌, ◌⊎◌, ap, inl, inr, sym, subst, ◌∙◌, ℕ, Bool, true, false}
 use Rattle.std.proofs.Common.{List, [], ◌∷◌, ◌++◌, Option, Some, None, Result, Ok, Err, length}
 use Rattle.std.proofs.Common.{get_or}
 use Rattle.std.proofs.Common.{arith, IfSome, refl, if◌then◌else◌}
@@ -16,8 +16,8 @@ use Rattle.board.specs.Steps.{job_of, pop_answer}
 use Rattle.board.specs.declared.step.Seen.TheVariants.{Did, Nothing}
 use Rattle.board.specs.declared.step.Step.TheVariants as step
 use Rattle.machine.specs.Ending.{FindsNone}
-use Rattle.machine.specs.Serving.{ByPop, DoesSome}
-use Rattle.machine.specs.Turn.{TurnState, pop_parts, stand_of}
+use Rattle.machine.specs.Serving.{ByPop, DoesSome, MayTake, NoEvent, NotLive, Stands, WritesNone}
+use Rattle.machine.specs.Turn.{pop_parts}
 
 -- there is an element at each index below the length
 pub some_at : {X : Type 0} (xs : List X) (k : ℕ) → k < length xs
@@ -25,43 +25,63 @@ pub some_at : {X : Type 0} (xs : List X) (k : ℕ) → k < length xs
 some_at [] k below = absurd (omega (arith, below))
 some_at (y ∷ ys) k below = (get_or (y ∷ ys) k y, slice_get-get_or (y ∷ ys) k y below)
 
-pub still_by : (guest most : ℕ) (g : Bool) (t : Stand) (b b' : Boards) → t ≡ standing [] g → b' ≡ b
-    → Runs guest most (standing [] g) b t b'
-still_by guest most g t b b' none same =
-    subst (λ r. Runs guest most (standing [] g) b r b') (sym none)
-    (subst (λ x. Runs guest most (standing [] g) b (standing [] g) x) (sym same)
-    (Still (standing [] g) b))
+pub still_by : (guest most : ℕ) (g v : Bool) (t : Stand) (b b' : Boards) → t ≡ standing [] g v
+    → b' ≡ b → Runs guest most (standing [] g v) b t b'
+still_by guest most g v t b b' none same =
+    subst (λ r. Runs guest most (standing [] g v) b r b') (sym none)
+    (subst (λ x. Runs guest most (standing [] g v) b (standing [] g v) x) (sym same)
+    (Still (standing [] g v) b))
 
 -- a step that was begun is given up
-pub gives_up : (guest most : ℕ) (ps : List Range) (g : Bool) (t : Stand) (b : Boards)
-    → t ≡ standing ps false → Runs guest most (standing ps g) b t b
-gives_up guest most ps g t b over = subst (λ r. Runs guest most (standing ps g) b r b) (sym over)
-    (GivesUp (standing ps g) ps g b b (Still (standing ps g) b))
+pub gives_up : (guest most : ℕ) (ps : List Range) (g v : Bool) (t : Stand) (b : Boards)
+    → t ≡ standing ps false v → Runs guest most (standing ps g v) b t b
+gives_up guest most ps g v t b over =
+    subst (λ r. Runs guest most (standing ps g v) b r b) (sym over)
+    (GivesUp (standing ps g v) ps g v b b (Still (standing ps g v) b))
 
--- the step is over, and nothing is to be copied out
-pub over_by : (guest most : ℕ) (turn : TurnState) (b : Boards) → turn.parts ≡ []
-    → turn.going ≡ false
-    → Runs guest most (standing [] false) b (stand_of turn) b
-over_by guest most turn b none over =
-    subst (λ g. Runs guest most (standing [] false) b (standing turn.parts g) b) (sym over)
-    (subst (λ ps. Runs guest most (standing [] false) b (standing ps false) b) (sym none)
-    (Still (standing [] false) b))
-
-pub pops_by : (guest most : ℕ) (qs : List Range) (v : Bool) (answer : Answer) (b b' : Boards)
-    → PopsOne guest most answer b qs b' → v ≡ false
-    → Runs guest most (standing [] true) b (standing qs v) b'
-pops_by guest most qs v answer b b' pops over =
-    subst (λ h. Runs guest most (standing [] true) b (standing qs h) b') (sym over)
-    (Pops (standing [] true) qs b b b' answer (Still (standing [] true) b) pops)
+pub pops_by : (guest most : ℕ) (v w : Bool) (qs : List Range) (t : Stand) (answer : Answer)
+    (b b' : Boards) → PopsOne guest most v answer b qs w b' → t ≡ standing qs false w
+    → Runs guest most (standing [] true v) b t b'
+pops_by guest most v w qs t answer b b' pops over =
+    subst (λ r. Runs guest most (standing [] true v) b r b') (sym over)
+    (Pops (standing [] true v) qs v w b b b' answer (Still (standing [] true v) b) pops)
 
 -- and where it gave a chain something was done
-pub pops_does : (guest most : ℕ) (qs : List Range) (v : Bool) (b b' : Boards)
-    → PopsOne guest most (Ok Did) b qs b' → v ≡ false
-    → DoesSome guest most (standing [] true) b (standing qs v) b'
-pops_does guest most qs v b b' pops over =
-    subst (λ h. DoesSome guest most (standing [] true) b (standing qs h) b') (sym over)
-    (ByPop (standing [] true) (standing qs false) qs b b b' b' (Ok Did) (Still (standing [] true) b)
-    pops refl (Still (standing qs false) b'))
+pub pops_does : (guest most : ℕ) (v w : Bool) (qs : List Range) (t : Stand) (b b' : Boards)
+    → PopsOne guest most v (Ok Did) b qs w b' → t ≡ standing qs false w
+    → DoesSome guest most (standing [] true v) b t b'
+pops_does guest most v w qs t b b' pops over =
+    subst (λ r. DoesSome guest most (standing [] true v) b r b') (sym over)
+    (ByPop (standing [] true v) (standing qs false w) qs v w b b b' b' (Ok Did)
+    (Still (standing [] true v) b) pops refl (Still (standing qs false w) b'))
+
+-- what is noted before a pop is as it writes it, where nothing was noted before
+pub writes_none : (v live l : Bool) (ps : List Range) (d : AskingState) → l ≡ v
+    → ps ≡ pop_parts d.device
+    → (live ≡ false → d.device.registers.status.driver_ok ≡ false)
+    → (live ≡ false) ⊎ ((l ≡ true) ⊎ (ps ≡ [])) → WritesNone v d
+writes_none v live l ps d same parts dead (inl off) = NotLive (dead off)
+writes_none v live l ps d same parts dead (inr (inl stands)) = Stands (sym same ∙ stands)
+writes_none v live l ps d same parts dead (inr (inr none)) = NoEvent (sym parts ∙ none)
+
+-- a pop that found no chain, and wrote nothing new
+pub finds_none : (guest most : ℕ) (v : Bool) (b b' : Boards) (d : AskingState)
+    → Makes (step.Pop guest) (Ok Nothing) b b' → slice_get b.devices guest ≡ Some d
+    → slice_get b.rest.jobs guest ≡ Some None → MayTake guest most b → WritesNone v d
+    → PopsOne guest most v (Ok Nothing) b [] v b'
+finds_none guest most v b b' d makes its empty fewer none = record {
+  makes = makes;
+  device = d;
+  its = its;
+  empty = empty;
+  fewer = fewer;
+  parts_are = inr (record {
+    none = refl;
+    gave_none = λ same. absurd (let no = same in cc);
+    same = refl;
+    nothing = λ is. none;
+  });
+}
 
 -- the parts that were noted of the guest's device
 pub noted_at : (o : Option AskingState) (d : AskingState) (ps qs : List Range) → o ≡ Some d
@@ -118,13 +138,13 @@ none_from : (stopped : Bool) (d d' : DeviceState) → GivesFrom stopped (live_qu
 none_from true d d' gives = ap (λ (x : DeviceState). x.registers) gives.1
 none_from false d d' gives = none_where d.registers.status.driver_ok d d.queue d' gives
 
-live_in : (o : Option AskingState) (x : DeviceState) → option_map device_in o ≡ Some x
-    → IfSome o (λ d. d.device.registers.status.driver_ok ≡ true)
-    → x.registers.status.driver_ok ≡ true
-live_in None x is live = absurd (let no = is in cc)
-live_in (Some d) x is live =
+live_in : (v : Bool) (o : Option AskingState) (x : DeviceState) → option_map device_in o ≡ Some x
+    → IfSome o (λ d. d.device.registers.status.driver_ok ≡ v)
+    → x.registers.status.driver_ok ≡ v
+live_in v None x is live = absurd (let no = is in cc)
+live_in v (Some d) x is live =
     let same : d.device ≡ x = (let all = is in cc) in
-    subst (λ (y : DeviceState). y.registers.status.driver_ok ≡ true) same live
+    subst (λ (y : DeviceState). y.registers.status.driver_ok ≡ v) same live
 
 module _ (guest : ℕ) (old new : Boards) (d : AskingState)
     (its : slice_get old.devices guest ≡ Some d)
@@ -145,16 +165,16 @@ module _ (guest : ℕ) (old new : Boards) (d : AskingState)
       let pops = pops_into (Ok Did) makes in
       did_of d.device pops.popped pops.device pops.gives pops.answers
 
-  pub looked_live : Makes (step.Pop guest) (Ok Nothing) old new
-      → IfSome (slice_get new.devices guest) (λ x. x.device.registers.status.driver_ok ≡ true)
-      → d.device.registers.status.driver_ok ≡ true
-  looked_live makes live =
+  pub looked_live : (v : Bool) → Makes (step.Pop guest) (Ok Nothing) old new
+      → IfSome (slice_get new.devices guest) (λ x. x.device.registers.status.driver_ok ≡ v)
+      → d.device.registers.status.driver_ok ≡ v
+  looked_live v makes live =
       let pops = pops_into (Ok Nothing) makes in
       let found = none_of guest (board_of old) (board_of new) d.device pops.popped pops.device
       pops.gives pops.answers its_device pops.after in
       sym (ap (λ r. r.status.driver_ok)
       (none_from (is_stopped d.device) d.device found.0 found.2))
-      ∙ live_in (slice_get new.devices guest) found.0
+      ∙ live_in v (slice_get new.devices guest) found.0
       (sym (slice_get-map device_in new.devices guest) ∙ found.1) live
 
 -- the guest's place for a job is there, and empty

@@ -620,9 +620,9 @@ not_done answer nothing (inr advance) = advance.1 nothing
 -- 4. All steps of a guest
 
 module _ (g most : ℕ) where
-  popped_pays : (answer : Answer) (a b : Boards) (qs : List Range) → PopsOne g most answer a qs b
-      → Pays g (answer ≡ Ok Did) a.rest b.rest
-  popped_pays answer a b qs pops =
+  popped_pays : (v w : Bool) (answer : Answer) (a b : Boards) (qs : List Range)
+      → PopsOne g most v answer a qs w b → Pays g (answer ≡ Ok Did) a.rest b.rest
+  popped_pays v w answer a b qs pops =
       pays_rest g a b (pop_pays g (board_of a) (board_of b) answer _ pops.empty
       (subst (λ p. PopsInto g p (slice_get (board_of a).devices g) answer (board_of a) (board_of b))
       pops.empty pops.makes.steps.does))
@@ -688,22 +688,22 @@ module _ (g most : ℕ) where
   runs_spend s t a b (Then q r x y z o answer runs share makes) =
       spends_twice g 0 0 x.rest y.rest z.rest (runs_spend q r x y runs)
       (step_pays o answer y z share makes).0
-  runs_spend s t a b (Pops q r x y z answer runs pops) =
-      spends_twice g 0 0 x.rest y.rest z.rest (runs_spend q (standing [] true) x y runs)
-      (popped_pays answer y z r pops).0
-  runs_spend s t a b (Hands q r x y z runs hands) =
+  runs_spend s t a b (Pops q r l m x y z answer runs pops) =
+      spends_twice g 0 0 x.rest y.rest z.rest (runs_spend q (standing [] true l) x y runs)
+      (popped_pays l m answer y z r pops).0
+  runs_spend s t a b (Hands q r l x y z runs hands) =
       fewer g 0 1 x.rest z.rest (omega arith)
-      (spends_twice g 0 1 x.rest y.rest z.rest (runs_spend q (standing [] true) x y runs)
+      (spends_twice g 0 1 x.rest y.rest z.rest (runs_spend q (standing [] true l) x y runs)
       (handed_spends y z r hands))
-  runs_spend s t a b (LearnsOf q r v w x y z none runs knows) =
-      spends_twice g 0 0 x.rest y.rest z.rest (runs_spend q (standing r v) x y runs)
+  runs_spend s t a b (LearnsOf q r v w l x y z none runs knows) =
+      spends_twice g 0 0 x.rest y.rest z.rest (runs_spend q (standing r v l) x y runs)
       (spends_same g y.rest z.rest (ap (λ b. b.rest) knows.after))
-  runs_spend s t a b (GivesUp q r v x y runs) = runs_spend q (standing r v) x y runs
-  runs_spend s t a b (Calls q r x y z runs notified) =
-      spends_twice g 0 0 x.rest y.rest z.rest (runs_spend q (standing r true) x y runs)
+  runs_spend s t a b (GivesUp q r v l x y runs) = runs_spend q (standing r v l) x y runs
+  runs_spend s t a b (Calls q r l x y z runs notified) =
+      spends_twice g 0 0 x.rest y.rest z.rest (runs_spend q (standing r true l) x y runs)
       (spends_same g y.rest z.rest (ap (λ b. b.rest) notified.after))
-  runs_spend s t a b (Voids q r v x y z runs why refuses) =
-      spends_twice g 0 0 x.rest y.rest z.rest (runs_spend q (standing r v) x y runs)
+  runs_spend s t a b (Voids q r v l x y z runs why refuses) =
+      spends_twice g 0 0 x.rest y.rest z.rest (runs_spend q (standing r v l) x y runs)
       (spends_same g y.rest z.rest (ap (λ b. b.rest) refuses.after))
 
   does_spend : (s t : Stand) (a b : Boards) → DoesSome g most s a t b → Spends g 1 a.rest b.rest
@@ -711,14 +711,14 @@ module _ (g most : ℕ) where
       spends_twice g 1 0 x.rest z.rest w.rest
       (spends_twice g 0 1 x.rest y.rest z.rest (runs_spend q r x y before)
       ((step_pays o answer y z share makes).1 some)) (runs_spend r u z w after)
-  does_spend s t a b (ByPop q u qs x y z w answer before pops some after) =
+  does_spend s t a b (ByPop q u qs l m x y z w answer before pops some after) =
       spends_twice g 1 0 x.rest z.rest w.rest
-      (spends_twice g 0 1 x.rest y.rest z.rest (runs_spend q (standing [] true) x y before)
-      ((popped_pays answer y z qs pops).1 some)) (runs_spend (standing qs false) u z w after)
-  does_spend s t a b (ByReply q u qs x y z w before hands after) =
+      (spends_twice g 0 1 x.rest y.rest z.rest (runs_spend q (standing [] true l) x y before)
+      ((popped_pays l m answer y z qs pops).1 some)) (runs_spend (standing qs false m) u z w after)
+  does_spend s t a b (ByReply q u qs l x y z w before hands after) =
       spends_twice g 1 0 x.rest z.rest w.rest
-      (spends_twice g 0 1 x.rest y.rest z.rest (runs_spend q (standing [] true) x y before)
-      (handed_spends y z qs hands)) (runs_spend (standing qs false) u z w after)
+      (spends_twice g 0 1 x.rest y.rest z.rest (runs_spend q (standing [] true l) x y before)
+      (handed_spends y z qs hands)) (runs_spend (standing qs false l) u z w after)
 
   many_spend : (n : ℕ) (s t : Stand) (a b : Boards) → DoesMany g most n s a t b
       → Spends g n a.rest b.rest

@@ -3,9 +3,9 @@ use Rattle.std.proofs.Common.{◌≡◌, refl, ap, sym, subst, ◌∙◌, ℕ, L
 use Rattle.std.proofs.Common.{Option, Some, length, map, IfSome, Bool, true, false}
 use Rattle.std.proofs.Common.{length-set}
 use Rattle.std.specs.Prelude.{option_map, IsSome, None}
-use Rattle.machine.proofs.Common.{slice_get, AskingState, Boards, Done, Hands, HandsReply}
+use Rattle.machine.proofs.Common.{slice_get, AskingState, Boards, Done, Hands, HandsOne, HandsReply}
 use Rattle.machine.proofs.Common.{OutboxMakes, Range, Runs, Still, in_place, outbox_state}
-use Rattle.machine.proofs.Common.{standing}
+use Rattle.machine.proofs.Common.{Stand, standing}
 use Rattle.board.proofs.Common.{append_assoc, slice_get-map}
 use Rattle.mmio_transport.specs.Queue.{QueueState}
 use Rattle.mmio_transport.specs.Written.{queue_parts}
@@ -13,28 +13,21 @@ use Rattle.mmio_transport.specs.declared.done.Published.{Published}
 use Rattle.machine.specs.Serving.{ByReply, DoesSome, IsNoted, QueuesStay, due_parts}
 use Rattle.machine.specs.Turn.{filled_parts, reply_parts}
 
-pub hands_by : (guest most : ℕ) (qs : List Range) (v : Bool) (published : Published) (b b' : Boards)
-    (h : HandsReply outbox_state OutboxMakes guest published b b') → v ≡ false
-    → qs ≡ reply_parts h.device.device h.done published
-    → Runs guest most (standing [] true) b (standing qs v) b'
-hands_by guest most qs v published b b' h over parts =
-    subst (λ g. Runs guest most (standing [] true) b (standing qs g) b') (sym over)
-    (Hands (standing [] true) qs b b b' (Still (standing [] true) b) (record {
-      published = published;
-      hands = h;
-      parts_are = parts;
-    }))
+module _ (guest most : ℕ) (w : Bool) (qs : List Range) (t : Stand) (published : Published)
+    (b b' : Boards) (h : HandsReply outbox_state OutboxMakes guest published b b')
+    (over : t ≡ standing qs false w) (parts : qs ≡ reply_parts h.device.device h.done published)
+  where
+    hands_one : HandsOne guest b qs b'
+    hands_one = record { published = published; hands = h; parts_are = parts }
 
-pub hands_does : (guest most : ℕ) (qs : List Range) (v : Bool) (published : Published)
-    (b b' : Boards)
-    (h : HandsReply outbox_state OutboxMakes guest published b b') → v ≡ false
-    → qs ≡ reply_parts h.device.device h.done published
-    → DoesSome guest most (standing [] true) b (standing qs v) b'
-hands_does guest most qs v published b b' h over parts =
-    subst (λ g. DoesSome guest most (standing [] true) b (standing qs g) b') (sym over)
-    (ByReply (standing [] true) (standing qs false) qs b b b' b' (Still (standing [] true) b)
-    (record { published = published; hands = h; parts_are = parts })
-    (Still (standing qs false) b'))
+    pub hands_by : Runs guest most (standing [] true w) b t b'
+    hands_by = subst (λ r. Runs guest most (standing [] true w) b r b') (sym over)
+        (Hands (standing [] true w) qs w b b b' (Still (standing [] true w) b) hands_one)
+
+    pub hands_does : DoesSome guest most (standing [] true w) b t b'
+    hands_does = subst (λ r. DoesSome guest most (standing [] true w) b r b') (sym over)
+        (ByReply (standing [] true w) (standing qs false w) qs w b b b' b'
+        (Still (standing [] true w) b) hands_one (Still (standing qs false w) b'))
 
 pub handed_count : (guest : ℕ) (published : Published) (b b' : Boards)
     → HandsReply outbox_state OutboxMakes guest published b b'

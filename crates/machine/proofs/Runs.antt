@@ -19,29 +19,29 @@ module _ (guest most : ℕ) where
   runs_twice s t u a b c p (Still r d) = p
   runs_twice s t u a b c p (Then q r x y z o answer runs share makes) =
       Then s r a y z o answer (runs_twice s q r a x y p runs) share makes
-  runs_twice s t u a b c p (Pops q r x y z answer runs pops) =
-      Pops s r a y z answer (runs_twice s q (standing [] true) a x y p runs) pops
-  runs_twice s t u a b c p (Hands q r x y z runs hands) =
-      Hands s r a y z (runs_twice s q (standing [] true) a x y p runs) hands
-  runs_twice s t u a b c p (LearnsOf q r g h x y z none runs knows) =
-      LearnsOf s r g h a y z none (runs_twice s q (standing r g) a x y p runs) knows
-  runs_twice s t u a b c p (GivesUp q r g x y runs) =
-      GivesUp s r g a y (runs_twice s q (standing r g) a x y p runs)
-  runs_twice s t u a b c p (Calls q r x y z runs notified) =
-      Calls s r a y z (runs_twice s q (standing r true) a x y p runs) notified
-  runs_twice s t u a b c p (Voids q r g x y z runs why refuses) =
-      Voids s r g a y z (runs_twice s q (standing r g) a x y p runs) why refuses
+  runs_twice s t u a b c p (Pops q r l m x y z answer runs pops) =
+      Pops s r l m a y z answer (runs_twice s q (standing [] true l) a x y p runs) pops
+  runs_twice s t u a b c p (Hands q r l x y z runs hands) =
+      Hands s r l a y z (runs_twice s q (standing [] true l) a x y p runs) hands
+  runs_twice s t u a b c p (LearnsOf q r g h l x y z none runs knows) =
+      LearnsOf s r g h l a y z none (runs_twice s q (standing r g l) a x y p runs) knows
+  runs_twice s t u a b c p (GivesUp q r g l x y runs) =
+      GivesUp s r g l a y (runs_twice s q (standing r g l) a x y p runs)
+  runs_twice s t u a b c p (Calls q r l x y z runs notified) =
+      Calls s r l a y z (runs_twice s q (standing r true l) a x y p runs) notified
+  runs_twice s t u a b c p (Voids q r g l x y z runs why refuses) =
+      Voids s r g l a y z (runs_twice s q (standing r g l) a x y p runs) why refuses
 
   -- a step that no device makes
   pub runs_step : (s : Stand) (a b : Boards) (x : Step) (answer : Answer) → IsShare guest x a
       → Makes x answer a b → Runs guest most s a s b
   runs_step s a b x answer share makes = Then s s a a b x answer (Still s a) share makes
 
-  pub runs_knows : (ps : List Range) (g h : Bool) (a b : Boards)
+  pub runs_knows : (ps : List Range) (g h v : Bool) (a b : Boards)
       → (g ≡ false → h ≡ true → ps ≡ []) → Knows guest g a h b
-      → Runs guest most (standing ps g) a (standing ps h) b
-  runs_knows ps g h a b none knows =
-      LearnsOf (standing ps g) ps g h a a b none (Still (standing ps g) a) knows
+      → Runs guest most (standing ps g v) a (standing ps h v) b
+  runs_knows ps g h v a b none knows =
+      LearnsOf (standing ps g v) ps g h v a a b none (Still (standing ps g v) a) knows
 
   pub still_same : (s t : Stand) (b : Boards) → t ≡ s → Runs guest most s b t b
   still_same s t b same = subst (λ r. Runs guest most s b r b) (sym same) (Still s b)
@@ -57,22 +57,22 @@ module _ (guest most : ℕ) where
       → DoesSome guest most s a u c
   does_then s t u a b c (ByStep r v w x y z d o answer before share makes some after) more =
       ByStep s v u a y z c o answer before share makes some (runs_twice v t u z b c after more)
-  does_then s t u a b c (ByPop r w qs x y z d answer before pops some after) more =
-      ByPop s u qs a y z c answer before pops some
-      (runs_twice (standing qs false) t u z b c after more)
-  does_then s t u a b c (ByReply r w qs x y z d before hands after) more =
-      ByReply s u qs a y z c before hands (runs_twice (standing qs false) t u z b c after more)
+  does_then s t u a b c (ByPop r w qs l m x y z d answer before pops some after) more =
+      ByPop s u qs l m a y z c answer before pops some
+      (runs_twice (standing qs false m) t u z b c after more)
+  does_then s t u a b c (ByReply r w qs l x y z d before hands after) more =
+      ByReply s u qs l a y z c before hands (runs_twice (standing qs false l) t u z b c after more)
 
   pub then_does : (s t u : Stand) (a b c : Boards) → Runs guest most s a t b
       → DoesSome guest most t b u c
       → DoesSome guest most s a u c
   then_does s t u a b c first (ByStep r v w x y z d o answer before share makes some after) =
       ByStep s v u a y z c o answer (runs_twice s t v a b y first before) share makes some after
-  then_does s t u a b c first (ByPop r w qs x y z d answer before pops some after) =
-      ByPop s u qs a y z c answer (runs_twice s t (standing [] true) a b y first before) pops some
+  then_does s t u a b c first (ByPop r w qs l m x y z d answer before pops some after) =
+      ByPop s u qs l m a y z c answer (runs_twice s t (standing [] true l) a b y first before) pops some
       after
-  then_does s t u a b c first (ByReply r w qs x y z d before hands after) =
-      ByReply s u qs a y z c (runs_twice s t (standing [] true) a b y first before) hands after
+  then_does s t u a b c first (ByReply r w qs l x y z d before hands after) =
+      ByReply s u qs l a y z c (runs_twice s t (standing [] true l) a b y first before) hands after
 
   -- a step that no device makes, and that did what it is for
   pub does_step : (s : Stand) (a b : Boards) (x : Step) (answer : Answer) → IsShare guest x a
@@ -110,23 +110,23 @@ module _ (guest : ℕ) where
   runs_moves most s t a b (Then q r x y z o answer runs share makes) =
       moves_twice outbox_state OutboxMakes (board_of x) (board_of y) (board_of z)
       (runs_moves most q r x y runs) makes.steps.moves
-  runs_moves most s t a b (Pops q r x y z answer runs pops) =
+  runs_moves most s t a b (Pops q r l m x y z answer runs pops) =
       moves_twice outbox_state OutboxMakes (board_of x) (board_of y) (board_of z)
-      (runs_moves most q (standing [] true) x y runs) pops.makes.steps.moves
-  runs_moves most s t a b (Hands q r x y z runs hands) =
+      (runs_moves most q (standing [] true l) x y runs) pops.makes.steps.moves
+  runs_moves most s t a b (Hands q r l x y z runs hands) =
       moves_twice outbox_state OutboxMakes (board_of x) (board_of y) (board_of z)
-      (runs_moves most q (standing [] true) x y runs) hands.hands.moves
-  runs_moves most s t a b (LearnsOf q r g h x y z none runs knows) =
+      (runs_moves most q (standing [] true l) x y runs) hands.hands.moves
+  runs_moves most s t a b (LearnsOf q r g h l x y z none runs knows) =
       moves_twice outbox_state OutboxMakes (board_of x) (board_of y) (board_of z)
-      (runs_moves most q (standing r g) x y runs) (known_moves g h y z knows)
-  runs_moves most s t a b (GivesUp q r g x y runs) = runs_moves most q (standing r g) x y runs
-  runs_moves most s t a b (Calls q r x y z runs notified) =
+      (runs_moves most q (standing r g l) x y runs) (known_moves g h y z knows)
+  runs_moves most s t a b (GivesUp q r g l x y runs) = runs_moves most q (standing r g l) x y runs
+  runs_moves most s t a b (Calls q r l x y z runs notified) =
       moves_twice outbox_state OutboxMakes (board_of x) (board_of y) (board_of z)
-      (runs_moves most q (standing r true) x y runs)
+      (runs_moves most q (standing r true l) x y runs)
       (device_moves y z notified.device' notified.after)
-  runs_moves most s t a b (Voids q r g x y z runs why refuses) =
+  runs_moves most s t a b (Voids q r g l x y z runs why refuses) =
       moves_twice outbox_state OutboxMakes (board_of x) (board_of y) (board_of z)
-      (runs_moves most q (standing r g) x y runs) (device_moves y z _ refuses.after)
+      (runs_moves most q (standing r g l) x y runs) (device_moves y z _ refuses.after)
 
   pub begins_moves : (s t : Stand) (a b : Boards) → Begins guest s a t b
       → Moves outbox_state OutboxMakes (board_of a) (board_of b)

@@ -159,21 +159,21 @@ module _ (guest : ℕ) where
   runs_whole most s t a b (Then q r x y z o answer runs share makes) =
       whole_twice x.rest y.rest z.rest (runs_whole most q r x y runs)
       (step_whole o answer y z share makes.steps.does)
-  runs_whole most s t a b (Pops q r x y z answer runs pops) =
-      whole_twice x.rest y.rest z.rest (runs_whole most q (standing [] true) x y runs)
+  runs_whole most s t a b (Pops q r l m x y z answer runs pops) =
+      whole_twice x.rest y.rest z.rest (runs_whole most q (standing [] true l) x y runs)
       (pop_whole (board_of y) (board_of z) answer guest _ _ pops.makes.steps.does)
-  runs_whole most s t a b (Hands q r x y z runs hands) =
-      whole_twice x.rest y.rest z.rest (runs_whole most q (standing [] true) x y runs)
+  runs_whole most s t a b (Hands q r l x y z runs hands) =
+      whole_twice x.rest y.rest z.rest (runs_whole most q (standing [] true l) x y runs)
       (whole_same y.rest z.rest (ap (λ b. b.rest.store) hands.hands.after))
-  runs_whole most s t a b (LearnsOf q r g h x y z none runs knows) =
-      whole_twice x.rest y.rest z.rest (runs_whole most q (standing r g) x y runs)
+  runs_whole most s t a b (LearnsOf q r g h l x y z none runs knows) =
+      whole_twice x.rest y.rest z.rest (runs_whole most q (standing r g l) x y runs)
       (whole_same y.rest z.rest (ap (λ b. b.rest.store) knows.after))
-  runs_whole most s t a b (GivesUp q r g x y runs) = runs_whole most q (standing r g) x y runs
-  runs_whole most s t a b (Calls q r x y z runs notified) =
-      whole_twice x.rest y.rest z.rest (runs_whole most q (standing r true) x y runs)
+  runs_whole most s t a b (GivesUp q r g l x y runs) = runs_whole most q (standing r g l) x y runs
+  runs_whole most s t a b (Calls q r l x y z runs notified) =
+      whole_twice x.rest y.rest z.rest (runs_whole most q (standing r true l) x y runs)
       (whole_same y.rest z.rest (ap (λ b. b.rest.store) notified.after))
-  runs_whole most s t a b (Voids q r g x y z runs why refuses) =
-      whole_twice x.rest y.rest z.rest (runs_whole most q (standing r g) x y runs)
+  runs_whole most s t a b (Voids q r g l x y z runs why refuses) =
+      whole_twice x.rest y.rest z.rest (runs_whole most q (standing r g l) x y runs)
       (whole_same y.rest z.rest (ap (λ b. b.rest.store) refuses.after))
 
   pub begins_whole : (s t : Stand) (a b : Boards) → Begins guest s a t b

@@ -39,11 +39,11 @@ module _ (n : ℕ) (a b d : Boards)
   works_now does = inl (record {
     guest = n % 65536;
     most = 0;
-    stand = standing [] false;
+    stand = standing [] false false;
     begins = b;
     ends = d;
     before = moves;
-    does = does 0 (standing [] false);
+    does = does 0 (standing [] false false);
     behind = moves_none outbox_state OutboxMakes (board_of d);
   })
 

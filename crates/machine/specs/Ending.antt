@@ -20,6 +20,7 @@ use Rattle.board.specs.declared.step.StepFault.{StepFault}
 use Rattle.board.specs.declared.step.StepFault.TheVariants as step_fault
 use Rattle.chains.specs.declared.range.Range.{Range}
 use Rattle.machine.specs.Serving.{AsksIn, Boards, DoesMany, DoesSome, HasNoReply, HasStopped}
+use Rattle.machine.specs.Serving.{IsGoing}
 use Rattle.machine.specs.Serving.{Makes, PopsOne, RefusesIn, Runs, is_write, standing}
 use Rattle.board.specs.declared.step.Seen.TheVariants.{Nothing}
 use Rattle.machine.specs.declared.fault.MachineFault.{MachineFault}
@@ -41,18 +42,24 @@ pub record FindsNone (guest : ℕ) (b : Boards) : Type 0 where
 
 -- One of these steps was a pop of the guest's device, which looked for a chain, by a copy of what
 -- says whether one is available (`SeesAs`), and found none. A step of the device is begun without
--- copies, so this one was told in that step.
+-- copies, so this one was told in that step. It left nothing to be copied out: so it looked behind
+-- avail_event, which stood in guest memory before it began.
 pub record Looks (guest most : ℕ) (s : Stand) (a : Boards) (v : Stand) (b : Boards) : Type 0 where
   pub before : Boards
-  pub first : Runs guest most s a (standing [] true) before
-  pub parts : List Range
+  pub looked : Bool
+  pub first : Runs guest most s a (standing [] true looked) before
+  pub looked' : Bool
   pub after : Boards
-  pub pops : PopsOne guest most (Ok Nothing) before parts after
-  pub rest : Runs guest most (standing parts false) after v b
+  pub pops : PopsOne guest most looked (Ok Nothing) before [] looked' after
+  pub rest : Runs guest most (standing [] false looked') after v b
 
 -- whether the driver is to be notified was seen behind all that its queue used
+abbrev pub SawUsed : AskingState → Type 0
+SawUsed a = IfSome a.device.queue (λ q. nat_le q.ring.used a.told ≡ true)
+
+-- It was, or the device waits for a reset: then nothing is asked for any more to see it.
 abbrev pub SawAll : AskingState → Type 0
-SawAll a = IfSome a.device.queue (λ q. nat_le q.ring.used a.told ≡ true)
+SawAll a = a.device.registers.status.needs_reset ≡ false → SawUsed a
 
 abbrev pub HasSeenAll : ℕ → Boards → Type 0
 HasSeenAll guest b = IfSome (slice_get b.devices guest) SawAll
@@ -106,9 +113,10 @@ reason_of (step_fault.Store e) = fault.DiskFault
 -- out, or for what was told.
 pub data HasReason (guest most : ℕ) (f : MachineFault) (s : Stand) (a : Boards) (v : Stand)
     (d : Boards) : Type 0 where
-  PopRefused : (b c : Boards) (e : StepFault) → Runs guest most s a (standing [] true) b
+  PopRefused : (w x : Bool) (b c : Boards) (e : StepFault)
+      → Runs guest most s a (standing [] true w) b
       → Makes (step.Pop guest) (Err e) b c → f ≡ reason_of e
-      → Runs guest most (standing [] false) c v d
+      → Runs guest most (standing [] false x) c v d
       → HasReason guest most f s a v d
   BookRefused : (t : Stand) (b c : Boards) (e : StepFault) → Runs guest most s a t b
       → Makes (step.Submit guest) (Err e) b c → f ≡ reason_of e → Runs guest most t c v d
@@ -170,16 +178,16 @@ abbrev pub left_by : Option Next → TurnState → Stand
 left_by None turn = stand_of turn
 left_by (Some next.Again) turn = stand_of turn
 left_by (Some (next.Read ask)) turn = stand_of turn
-left_by (Some (next.Write part)) turn = standing (part ∷ turn.parts) turn.going
+left_by (Some (next.Write part)) turn = standing (part ∷ turn.parts) turn.going turn.looked
 left_by (Some next.Call) turn = record (stand_of turn) { owed = true }
 left_by (Some (next.Rest f)) turn = stand_of turn
 
--- What it needs to see whether the driver is to be notified: bytes of its memory; the notification,
--- where it is; or nothing.
+-- What it needs to see whether the driver is to be notified: bytes of its memory, unless the device
+-- waits for a reset; the notification, where it is; or nothing.
 abbrev pub NotifiesNext : ℕ → Boards → Option Next → Type 0
 NotifiesNext guest b None = Unit {0}
 NotifiesNext guest b (Some next.Again) = ⊥
-NotifiesNext guest b (Some (next.Read ask)) = AsksIn guest ask b
+NotifiesNext guest b (Some (next.Read ask)) = AsksIn guest ask b × IsGoing guest b
 NotifiesNext guest b (Some (next.Write part)) = ⊥
 NotifiesNext guest b (Some next.Call) = Unit {0}
 NotifiesNext guest b (Some (next.Rest f)) = ⊥
@@ -275,7 +283,8 @@ pub data Begins (guest : ℕ) (s : Stand) (old : Boards) (left : Stand) (heard :
   GoesOn : heard ≡ old → left ≡ s → Begins guest s old left heard
   Tells : (at : ℕ) (bytes : List ℕ) → TellsIn guest at bytes old heard → left ≡ s
       → Begins guest s old left heard
-  Stops : RefusesIn guest old heard → left ≡ standing [] s.going → Begins guest s old left heard
+  Stops : RefusesIn guest old heard → left ≡ standing [] s.going s.looked
+      → Begins guest s old left heard
 
 -- The answer was taken first, and the guest's steps came behind it, up to what is needed next.
 pub record HearsAnswer (guest most : ℕ) (a : Asked) (there : Bool) (given : List ℕ) (s : Stand)

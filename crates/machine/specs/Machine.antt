@@ -187,7 +187,8 @@ NeedsOf guest most room what.Again s bytes left heard old new =
 abbrev pub left_of : What → (at len : ℕ) → TurnState → Stand
 left_of what.Rest at len turn = stand_of turn
 left_of what.Read at len turn = stand_of turn
-left_of what.Write at len turn = standing (record { at = at; len = len } ∷ turn.parts) turn.going
+left_of what.Write at len turn =
+    standing (record { at = at; len = len } ∷ turn.parts) turn.going turn.looked
 left_of what.Call at len turn = record (stand_of turn) { owed = true }
 left_of what.Again at len turn = stand_of turn
 

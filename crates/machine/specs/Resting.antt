@@ -5,6 +5,7 @@ use Rattle.std.specs.Prelude.{None, slice_get}
 use Rattle.mmio_transport.specs.Asking.{AskingState}
 use Rattle.mmio_transport.specs.Resting.{IsSaved, MayGoOn, at_place, going_on, is_at_rest}
 use Rattle.mmio_transport.specs.Resting.{place_of}
+use Rattle.mmio_transport.specs.declared.registers.Registers.{Registers}
 use Rattle.mmio_transport.specs.declared.saving.RestingDevice.{RestingDevice}
 use Rattle.mmio_transport.specs.declared.saving.RestingQueue.{RestingQueue}
 use Rattle.machine.specs.Machine.{MachineState, has_guest, with_device}
@@ -126,7 +127,12 @@ pub data HasNoPlace (m : MachineState) (guest : ℕ) : Type 0 where
   NotResting : IsUnrested m guest → HasNoPlace m guest
   NotReady : (it : RestingDevice) → RestsAs m guest it → it.queue ≡ None → HasNoPlace m guest
 
--- The guest's queue, which was at rest, goes on at another place.
+-- bit 0 of InterruptStatus is raised (VIRTIO 1.2, 4.2.2)
+abbrev pub notified : Registers → Registers
+notified r = record r { interrupts = record r.interrupts { used_buffer = true } }
+
+-- The guest's queue, which was at rest, goes on at another place, and its driver is to look at what
+-- was used before: another device may have used it, and ended before it notified.
 pub record MovesTo (guest place : ℕ) (old new : MachineState) : Type 0 where
   pub it : RestingDevice
   pub rests_as : RestsAs old guest it
@@ -134,7 +140,7 @@ pub record MovesTo (guest place : ℕ) (old new : MachineState) : Type 0 where
   pub ready : it.queue ≡ Some queue
   pub moved : RestingQueue
   pub place_is : at_place queue.kind queue place ≡ Some moved
-  pub goes : GoesOnAs guest (record { registers = it.registers; queue = Some moved }) old new
+  pub goes : GoesOnAs guest (record { registers = notified it.registers; queue = Some moved }) old new
 
 -- Why it doesn't: it has no place now, or not this one.
 pub data StaysThere (m : MachineState) (guest place : ℕ) : Type 0 where
@@ -143,5 +149,5 @@ pub data StaysThere (m : MachineState) (guest place : ℕ) : Type 0 where
       → at_place q.kind q place ≡ None → StaysThere m guest place
   CantStand : (it : RestingDevice) (q moved : RestingQueue) → RestsAs m guest it
       → it.queue ≡ Some q → at_place q.kind q place ≡ Some moved
-      → CantGoOn guest (record { registers = it.registers; queue = Some moved }) m
+      → CantGoOn guest (record { registers = notified it.registers; queue = Some moved }) m
       → StaysThere m guest place

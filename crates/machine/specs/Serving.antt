@@ -166,16 +166,33 @@ pub record WritesAll (device : AskingState) (answer : Answer) (parts : List Rang
 abbrev pub MayTake : (guest most : ℕ) → Boards → Type 0
 MayTake guest most b = nat_lt (waiting guest b.rest) most ≡ true
 
+-- A pop of this device writes nothing that its guest's memory hasn't: avail_event is there, or there
+-- is none; or it isn't live, and writes nothing.
+pub data WritesNone (looked : Bool) (device : AskingState) : Type 0 where
+  Stands : looked ≡ true → WritesNone looked device
+  NoEvent : pop_parts device.device ≡ [] → WritesNone looked device
+  NotLive : device.device.registers.status.driver_ok ≡ false → WritesNone looked device
+
+-- A pop that gave no chain left nothing to be copied out: where it wasn't refused, since it wrote
+-- nothing new.
+pub record LeavesNone (looked : Bool) (device : AskingState) (answer : Answer) (parts : List Range)
+    (looked' : Bool) : Type 0 where
+  pub none : parts ≡ []
+  pub gave_none : answer ≢ Ok Did
+  pub same : looked' ≡ looked
+  pub nothing : answer ≡ Ok Nothing → WritesNone looked device
+
 -- The guest's device popped, while fewer of its chains waited for their answers than may: what it
 -- wrote is to be copied out, unless it found no chain and that is in guest memory already.
-pub record PopsOne (guest most : ℕ) (answer : Answer) (old : Boards) (parts : List Range)
-    (new : Boards) : Type 0 where
+pub record PopsOne (guest most : ℕ) (looked : Bool) (answer : Answer) (old : Boards)
+    (parts : List Range) (looked' : Bool) (new : Boards) : Type 0 where
   pub makes : Makes (step.Pop guest) answer old new
   pub device : AskingState
   pub its : slice_get old.devices guest ≡ Some device
   pub empty : slice_get old.rest.jobs guest ≡ Some None
   pub fewer : MayTake guest most old
-  pub parts_are : WritesAll device answer parts ⊎ ((parts ≡ []) × ((answer ≡ Ok Did) → ⊥))
+  pub parts_are : (WritesAll device answer parts × (looked' ≡ true))
+      ⊎ LeavesNone looked device answer parts looked'
 
 -- A reply was handed to its device: all that this wrote is to be copied out, in its order.
 pub record HandsOne (guest : ℕ) (old : Boards) (parts : List Range) (new : Boards) : Type 0 where
@@ -183,47 +200,48 @@ pub record HandsOne (guest : ℕ) (old : Boards) (parts : List Range) (new : Boa
   pub hands : HandsReply outbox_state OutboxMakes guest published old new
   pub parts_are : parts ≡ reply_parts hands.device.device hands.done published
 
--- parts that are left to be copied out, and whether a step of the device was begun
-abbrev pub standing : List Range → Bool → Stand
-standing parts going = record { parts = parts; going = going; owed = false }
+-- parts that are left to be copied out, whether a step of the device was begun, and whether
+-- avail_event stands, or will
+abbrev pub standing : List Range → (going looked : Bool) → Stand
+standing parts going looked =
+    record { parts = parts; going = going; looked = looked; owed = false }
 
 -- these parts are left, and the driver is to be notified
-abbrev pub owing : List Range → Stand
-owing parts = record { parts = parts; going = false; owed = true }
+abbrev pub owing : List Range → Bool → Stand
+owing parts looked = record { parts = parts; going = false; looked = looked; owed = true }
 
 -- The guest's steps, one after another, from one board to the other, with what is to be copied out
 -- into guest memory before and behind them. A step of its device is made only once it was begun, and
 -- begins only where nothing is left to be copied out: so what it reads was told behind all that the
 -- steps before it wrote, and it believes nothing that was told for one of them. It pops only while
--- fewer of its chains wait for their answers than may. No part is left out:
--- one goes only where the monitor is told of it, behind these steps, or where the device waits for a
--- reset.
+-- fewer of its chains wait for their answers than may. No part is left out: one goes only where the
+-- monitor is told of it, behind these steps, or where the device waits for a reset.
 pub data Runs (guest most : ℕ) : Stand → Boards → Stand → Boards → Type 0 where
   Still : (s : Stand) (b : Boards) → Runs guest most s b s b
   Then : (s t : Stand) (a b c : Boards) (x : Step) (answer : Answer)
       → Runs guest most s a t b → IsShare guest x b → Makes x answer b c → Runs guest most s a t c
   -- the device steps only once all that it wrote before is in guest memory
-  Pops : (s : Stand) (qs : List Range) (a b c : Boards) (answer : Answer)
-      → Runs guest most s a (standing [] true) b → PopsOne guest most answer b qs c
-      → Runs guest most s a (standing qs false) c
-  Hands : (s : Stand) (qs : List Range) (a b c : Boards)
-      → Runs guest most s a (standing [] true) b → HandsOne guest b qs c
-      → Runs guest most s a (standing qs false) c
-  LearnsOf : (s : Stand) (qs : List Range) (g h : Bool) (a b c : Boards)
+  Pops : (s : Stand) (qs : List Range) (v w : Bool) (a b c : Boards) (answer : Answer)
+      → Runs guest most s a (standing [] true v) b → PopsOne guest most v answer b qs w c
+      → Runs guest most s a (standing qs false w) c
+  Hands : (s : Stand) (qs : List Range) (v : Bool) (a b c : Boards)
+      → Runs guest most s a (standing [] true v) b → HandsOne guest b qs c
+      → Runs guest most s a (standing qs false v) c
+  LearnsOf : (s : Stand) (qs : List Range) (g h v : Bool) (a b c : Boards)
       → (g ≡ false → h ≡ true → qs ≡ [])
-      → Runs guest most s a (standing qs g) b → Knows guest g b h c
-      → Runs guest most s a (standing qs h) c
+      → Runs guest most s a (standing qs g v) b → Knows guest g b h c
+      → Runs guest most s a (standing qs h v) c
   -- a step that was begun is given up
-  GivesUp : (s : Stand) (qs : List Range) (g : Bool) (a b : Boards)
-      → Runs guest most s a (standing qs g) b → Runs guest most s a (standing qs false) b
+  GivesUp : (s : Stand) (qs : List Range) (g v : Bool) (a b : Boards)
+      → Runs guest most s a (standing qs g v) b → Runs guest most s a (standing qs false v) b
   -- a notification is due: the monitor is told of it
-  Calls : (s : Stand) (qs : List Range) (a b c : Boards)
-      → Runs guest most s a (standing qs true) b → Notified guest b c
-      → Runs guest most s a (owing qs) c
+  Calls : (s : Stand) (qs : List Range) (v : Bool) (a b c : Boards)
+      → Runs guest most s a (standing qs true v) b → Notified guest b c
+      → Runs guest most s a (owing qs v) c
   -- it can't go on: the device waits for a reset, and what is left is void
-  Voids : (s : Stand) (qs : List Range) (g : Bool) (a b c : Boards)
-      → Runs guest most s a (standing qs g) b → CantGoOn guest qs b → RefusesIn guest b c
-      → Runs guest most s a (standing [] g) c
+  Voids : (s : Stand) (qs : List Range) (g v : Bool) (a b c : Boards)
+      → Runs guest most s a (standing qs g v) b → CantGoOn guest qs b → RefusesIn guest b c
+      → Runs guest most s a (standing [] g v) c
 
 -- a step did what it is for; or a call of the disk failed, by which the store breaks
 abbrev pub IsDone : Step → Answer → Type 0
@@ -235,12 +253,12 @@ pub data DoesSome (guest most : ℕ) : Stand → Boards → Stand → Boards →
   ByStep : (s t u : Stand) (a b c d : Boards) (x : Step) (answer : Answer)
       → Runs guest most s a t b → IsShare guest x b → Makes x answer b c → IsDone x answer
       → Runs guest most t c u d → DoesSome guest most s a u d
-  ByPop : (s u : Stand) (qs : List Range) (a b c d : Boards) (answer : Answer)
-      → Runs guest most s a (standing [] true) b → PopsOne guest most answer b qs c
-      → answer ≡ Ok Did → Runs guest most (standing qs false) c u d → DoesSome guest most s a u d
-  ByReply : (s u : Stand) (qs : List Range) (a b c d : Boards)
-      → Runs guest most s a (standing [] true) b → HandsOne guest b qs c
-      → Runs guest most (standing qs false) c u d → DoesSome guest most s a u d
+  ByPop : (s u : Stand) (qs : List Range) (v w : Bool) (a b c d : Boards) (answer : Answer)
+      → Runs guest most s a (standing [] true v) b → PopsOne guest most v answer b qs w c
+      → answer ≡ Ok Did → Runs guest most (standing qs false w) c u d → DoesSome guest most s a u d
+  ByReply : (s u : Stand) (qs : List Range) (v : Bool) (a b c d : Boards)
+      → Runs guest most s a (standing [] true v) b → HandsOne guest b qs c
+      → Runs guest most (standing qs false v) c u d → DoesSome guest most s a u d
 
 -- So many things were done among such steps, one behind the other.
 pub data DoesMany (guest most : ℕ) : ℕ → Stand → Boards → Stand → Boards → Type 0 where
@@ -256,11 +274,12 @@ pub record HasStopped (guest most : ℕ) (s : Stand) (a : Boards) (t : Stand) (b
   pub before : Boards
   pub parts : List Range
   pub going : Bool
-  pub runs : Runs guest most s a (standing parts going) before
+  pub looked : Bool
+  pub runs : Runs guest most s a (standing parts going looked) before
   pub went_on : IsGoing guest before
   pub why : CantGoOn guest parts before
   pub refuses : RefusesIn guest before b
-  pub left : t ≡ standing [] going
+  pub left : t ≡ standing [] going looked
 
 -- of every other guest the device stays, and what lies between two steps
 pub record OthersStay {D : Type 0} (guest : ℕ) (old new : BoardState D) : Type 0 where

@@ -37,15 +37,18 @@ fresh_turn = record {
 }
 
 -- Where a guest's steps stand: what isn't in its memory yet; whether a step of its device was begun,
--- so that all of which it has a copy was told for that step; and whether its driver is to be
--- notified, which the monitor wasn't told.
+-- so that all of which it has a copy was told for that step; whether avail_event as its device wrote
+-- it last is in its memory, or among those parts; and whether its driver is to be notified, which
+-- the monitor wasn't told.
 pub record Stand : Type 0 where
   pub parts : List Range
   pub going : Bool
+  pub looked : Bool
   pub owed : Bool
 
 abbrev pub stand_of : TurnState → Stand
-stand_of turn = record { parts = turn.parts; going = turn.going; owed = false }
+stand_of turn =
+    record { parts = turn.parts; going = turn.going; looked = turn.looked; owed = false }
 
 -- what is done next stays, and what was asked for
 abbrev pub KeepsStage : TurnState → TurnState → Type 0

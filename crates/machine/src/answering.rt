@@ -15,18 +15,15 @@ ghost use Rattle.machine.specs.declared.turn.Asked.TheVariants as asked_of;
 
 use crate::fault::MachineFault;
 use crate::serving::{Next, serve};
+use crate::status::waits_for_reset;
 use crate::turn::{Asked, Turn};
 use board::AskingBoard;
 use chains::Range;
 use disk::OutboxDisk;
 use guest_memory::{Ask, MemFault};
-use mmio_transport::register;
 
 /// The most bytes that are asked for, or written, at once.
 pub(crate) const LARGEST_PART: usize = 16_384;
-
-/// DEVICE_NEEDS_RESET in Status (VIRTIO 1.2, 2.1).
-const NEEDS_RESET: u32 = 64;
 
 /// The guest has no memory where bytes were asked for or were to be copied to: its device waits for
 /// a reset.
@@ -99,16 +96,6 @@ fn answer(
                 }
             }
         }
-    }
-}
-
-/// Whether the guest's device waits for a reset.
-fn waits_for_reset(board: &AskingBoard<OutboxDisk>, guest: u16) -> bool
-    ensures { result ≡ false → IsGoing guest board.now }
-{
-    match board.device_of(guest) {
-        Some(device) => device.read(register::STATUS, 4) / NEEDS_RESET % 2 == 1,
-        None => true,
     }
 }
 

@@ -105,8 +105,8 @@ fn tell_zeros(board: &mut AskingBoard<OutboxDisk>, guest: u16, turn: &Turn) -> b
     requires guest { guest < length board.old.devices }
     requires lies { IsSome (in_place (slice_get board.old.rest.dones guest)) }
     requires noted { IsNoted guest turn.now.parts board.old }
-    ensures runs { (most : ℕ) (ps : List Part) (g : Bool)
-        → Runs guest most (standing ps g) board.old (standing ps g) board.new }
+    ensures runs { (most : ℕ) (ps : List Part) (g w : Bool)
+        → Runs guest most (standing ps g w) board.old (standing ps g w) board.new }
     ensures rest { board.new.rest ≡ board.old.rest }
     ensures queues { QueuesStay board.old board.new }
     ensures count { length board.new.devices ≡ length board.old.devices }
@@ -126,8 +126,8 @@ fn prepare(board: &mut AskingBoard<OutboxDisk>, guest: u16, turn: &mut Turn) -> 
     requires parts { turn.old.parts ≡ [] }
     requires guest { guest < length board.old.devices }
     requires lies { IsSome (in_place (slice_get board.old.rest.dones guest)) }
-    ensures runs { (most : ℕ) → Runs guest most (standing [] turn.old.going) board.old
-        (standing [] turn.new.going) board.new }
+    ensures runs { (most : ℕ) → Runs guest most (standing [] turn.old.going turn.old.looked)
+        board.old (standing [] turn.new.going turn.new.looked) board.new }
     ensures begun { result ≡ true → turn.new.going ≡ true }
     ensures rest { board.new.rest ≡ board.old.rest }
     ensures noted { result ≡ true → IsNoted guest turn.new.parts board.new }
@@ -153,10 +153,10 @@ fn publish(board: &mut AskingBoard<OutboxDisk>, guest: u16, turn: &mut Turn) -> 
     requires lies { IsSome (in_place (slice_get board.old.rest.dones guest)) }
     requires noted { IsNoted guest turn.old.parts board.old }
     requires begun { turn.old.going ≡ true }
-    ensures runs { (most : ℕ)
-        → Runs guest most (standing [] true) board.old (stand_of turn.new) board.new }
-    ensures did { result ≡ Left.Did → (most : ℕ)
-        → DoesSome guest most (standing [] true) board.old (stand_of turn.new) board.new }
+    ensures runs { (most : ℕ) → Runs guest most (standing [] true turn.old.looked) board.old
+        (stand_of turn.new) board.new }
+    ensures did { result ≡ Left.Did → (most : ℕ) → DoesSome guest most
+        (standing [] true turn.old.looked) board.old (stand_of turn.new) board.new }
     ensures idle { result ≢ Left.Did → turn.new.parts ≡ [] }
     ensures asks { (ask : Ask) → result ≡ Left.Asks ask → AsksIn guest ask board.new }
     ensures either { (result ≢ Left.Nothing) × (result ≢ Left.NoMemory) }
@@ -184,10 +184,10 @@ fn publish(board: &mut AskingBoard<OutboxDisk>, guest: u16, turn: &mut Turn) -> 
 pub(crate) fn leave_one(board: &mut AskingBoard<OutboxDisk>, guest: u16, turn: &mut Turn) -> Left
     requires parts { turn.old.parts ≡ [] }
     requires guest { guest < length board.old.devices }
-    ensures runs { (most : ℕ) → Runs guest most (standing [] turn.old.going) board.old
-        (stand_of turn.new) board.new }
-    ensures did { result ≡ Left.Did → (most : ℕ)
-        → DoesSome guest most (standing [] turn.old.going) board.old (stand_of turn.new) board.new }
+    ensures runs { (most : ℕ) → Runs guest most (standing [] turn.old.going turn.old.looked)
+        board.old (stand_of turn.new) board.new }
+    ensures did { result ≡ Left.Did → (most : ℕ) → DoesSome guest most
+        (standing [] turn.old.going turn.old.looked) board.old (stand_of turn.new) board.new }
     ensures idle { result ≢ Left.Did → turn.new.parts ≡ [] }
     ensures asks { (ask : Ask) → result ≡ Left.Asks ask → AsksIn guest ask board.new }
     ensures nothing { result ≡ Left.Nothing → HasNoReply guest board.new.rest

@@ -16,6 +16,7 @@ mod serving;
 mod settings;
 mod starting;
 mod state;
+mod status;
 mod taking;
 mod turn;
 

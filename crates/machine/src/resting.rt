@@ -7,6 +7,7 @@ ghost use Rattle.machine.specs.Machine.{has_guest};
 ghost use Rattle.machine.specs.Resting.{CantGoOn, GoesOnAs, HasLoadingFault, HasNoPlace};
 ghost use Rattle.machine.specs.Resting.{HasSavingFault, IsSavedIn, IsUnrested, LoadsOf, MovesTo};
 ghost use Rattle.machine.specs.Resting.{RestsAs, RestsAtPlace, StaysThere, is_its, is_written};
+ghost use Rattle.machine.specs.Resting.{notified};
 ghost use Rattle.machine.specs.Resting.{rests};
 
 use crate::fault::MachineFault;
@@ -14,7 +15,7 @@ use crate::machine::Machine;
 use crate::settings::Setup;
 use crate::state::{STATE_WORDS, device_of, is_of, is_state, write_state};
 use crate::turn::{Asked, Turn};
-use mmio_transport::{AskingDevice, RestingDevice};
+use mmio_transport::{AskingDevice, Interrupts, Registers, RestingDevice};
 
 impl Turn {
     /// Whether all that the device wrote is in guest memory.
@@ -27,6 +28,20 @@ impl Turn {
             Asked::Write => false,
         };
         is_over && self.parts.is_empty()
+    }
+}
+
+/// The registers with bit 0 of InterruptStatus raised (VIRTIO 1.2, 4.2.2).
+fn notified(registers: &Registers) -> Registers
+    ensures { result ≡ notified registers.now }
+{
+    let interrupts = Interrupts {
+        used_buffer: true,
+        ..registers.interrupts
+    };
+    Registers {
+        interrupts,
+        ..*registers
     }
 }
 
@@ -181,8 +196,9 @@ impl Machine {
         }
     }
 
-    /// Lets the guest's queue, which is at rest, go on at another place. Whether it does: not where
-    /// it isn't ready, or has no such place; then nothing changes.
+    /// Lets the guest's queue, which is at rest, go on at another place, and notifies its driver:
+    /// who had the queue before may have used a chain, and ended before it told of it. Whether it
+    /// does: not where it isn't ready, or has no such place; then nothing changes.
     pub fn move_to(&mut self, guest: u16, place: u16) -> bool
         ensures moves { result ≡ true → MovesTo guest place self.old self.new }
         ensures stays { result ≡ false → StaysThere self.old guest place }
@@ -198,7 +214,7 @@ impl Machine {
             return false;
         };
         let moved_device = RestingDevice {
-            registers: it.registers,
+            registers: notified(&it.registers),
             queue: Some(moved),
         };
         self.go_on_as(guest, &moved_device)

@@ -11,6 +11,7 @@ ghost use Rattle.machine.specs.declared.fault.MachineFault.{MachineFault};
 use crate::fault::MachineFault;
 use crate::handing::{hand_all, has_write};
 use crate::leaving::{Left, leave_one};
+use crate::status::waits_for_reset;
 use crate::taking::{Taken, begin, take_one};
 use crate::turn::{Stage, Turn};
 use board::AskingBoard;
@@ -36,12 +37,14 @@ pub(crate) enum Next {
     Rest(Option<MachineFault>),
 }
 
-/// Sees whether the driver is to be notified of the replies that left. `None` where it isn't.
+/// Sees whether the driver is to be notified of the replies that left. `None` where it isn't; or
+/// where bytes would have to be asked for a device that waits for a reset: a guest that has none
+/// there would be asked for them without end.
 fn notify(board: &mut AskingBoard<OutboxDisk>, guest: u16, turn: &mut Turn) -> Option<Next>
     requires guest { guest < length board.old.devices }
     requires parts { turn.old.parts ≡ [] }
-    ensures runs { (most : ℕ) → Runs guest most (standing [] turn.old.going) board.old
-        (left_by result turn.new) board.new }
+    ensures runs { (most : ℕ) → Runs guest most (standing [] turn.old.going turn.old.looked)
+        board.old (left_by result turn.new) board.new }
     ensures needs { NotifiesNext guest board.new result }
     ensures rest { board.new.rest ≡ board.old.rest }
     ensures none { result ≡ None
@@ -53,6 +56,10 @@ fn notify(board: &mut AskingBoard<OutboxDisk>, guest: u16, turn: &mut Turn) -> O
     begin(board, guest, turn);
     match board.device(guest).notify() {
         Err(ask) => {
+            if waits_for_reset(board, guest) {
+                turn.take_next();
+                return None;
+            }
             turn.go_to(Stage::Notifying);
             Some(Next::Read(ask))
         }

@@ -10,14 +10,12 @@ ghost use Rattle.machine.specs.Serving.{standing};
 ghost use Rattle.machine.specs.Turn.{KeepsStage, Stand, pop_parts, stand_of};
 
 use crate::fault::MachineFault;
+use crate::status::is_live;
 use crate::turn::Turn;
 use board::AskingBoard;
 use disk::OutboxDisk;
 use guest_memory::Ask;
-use mmio_transport::{PopFault, register};
-
-/// DRIVER_OK in Status (VIRTIO 1.2, 2.1).
-const DRIVER_OK: u32 = 4;
+use mmio_transport::PopFault;
 
 /// What became of the next chain.
 #[derive(Clone, Copy, Debug, PartialEq, Eq)]
@@ -35,8 +33,8 @@ pub(crate) enum Taken {
 /// Begins a step of the guest's device, where none was begun: what there is a copy of is forgotten.
 pub(crate) fn begin(board: &mut AskingBoard<OutboxDisk>, guest: u16, turn: &mut Turn)
     requires { guest < length board.old.devices }
-    ensures runs { (most : ℕ)
-        → Runs guest most (standing [] turn.old.going) board.old (standing [] true) board.new }
+    ensures runs { (most : ℕ) (w : Bool)
+        → Runs guest most (standing [] turn.old.going w) board.old (standing [] true w) board.new }
     ensures rest { board.new.rest ≡ board.old.rest }
     ensures devices { SameDevices board.old board.new }
     ensures count { length board.new.devices ≡ length board.old.devices }
@@ -71,8 +69,8 @@ fn note_event(board: &AskingBoard<OutboxDisk>, guest: u16, turn: &mut Turn) -> b
 /// is no memory for that, it is asked for.
 fn tell_event(board: &mut AskingBoard<OutboxDisk>, guest: u16)
     requires { guest < length board.old.devices }
-    ensures runs { (most : ℕ) (ps : List Part) (g : Bool)
-        → Runs guest most (standing ps g) board.old (standing ps g) board.new }
+    ensures runs { (most : ℕ) (ps : List Part) (g w : Bool)
+        → Runs guest most (standing ps g w) board.old (standing ps g w) board.new }
     ensures rest { board.new.rest ≡ board.old.rest }
     ensures count { length board.new.devices ≡ length board.old.devices }
 {
@@ -88,8 +86,8 @@ fn tell_event(board: &mut AskingBoard<OutboxDisk>, guest: u16)
 /// Begins a pop of the guest's device, where none was begun.
 fn begin_pop(board: &mut AskingBoard<OutboxDisk>, guest: u16, turn: &mut Turn)
     requires { guest < length board.old.devices }
-    ensures runs { (most : ℕ)
-        → Runs guest most (standing [] turn.old.going) board.old (standing [] true) board.new }
+    ensures runs { (most : ℕ) (w : Bool)
+        → Runs guest most (standing [] turn.old.going w) board.old (standing [] true w) board.new }
     ensures rest { board.new.rest ≡ board.old.rest }
     ensures count { length board.new.devices ≡ length board.old.devices }
     ensures turn { turn.new ≡ record turn.old { going = true } }
@@ -100,27 +98,16 @@ fn begin_pop(board: &mut AskingBoard<OutboxDisk>, guest: u16, turn: &mut Turn)
     }
 }
 
-/// Whether the guest's driver has set DRIVER_OK (VIRTIO 1.2, 2.1): before, a pop looks at nothing,
-/// and writes nothing.
-fn is_live(board: &AskingBoard<OutboxDisk>, guest: u16) -> bool
-    ensures { result ≡ true → IfSome (slice_get board.now.devices guest)
-        (λ d. d.device.registers.status.driver_ok ≡ true) }
-{
-    match board.device_of(guest) {
-        Some(device) => device.read(register::STATUS, 4) / DRIVER_OK % 2 == 1,
-        None => false,
-    }
-}
-
 /// No chain is available. What the pop wrote, where it did, is copied out once, and then it is
 /// looked anew: the driver may have offered one before it could see that.
 fn found_none(turn: &mut Turn, is_live: bool) -> Taken
-    ensures nothing { result ≢ Taken.Did → turn.new.parts ≡ [] }
+    ensures nothing { result ≢ Taken.Did → turn.new ≡ record turn.old { going = false; parts = [] } }
+    ensures why { result ≢ Taken.Did
+        → (is_live ≡ false) ⊎ ((turn.old.looked ≡ true) ⊎ (turn.old.parts ≡ [])) }
     ensures did { result ≡ Taken.Did
-        → (turn.new.parts ≡ turn.old.parts) × (turn.new.parts ≢ []) }
+        → (turn.new ≡ record turn.old { going = false; looked = true }) × (turn.old.parts ≢ []) }
     ensures live { result ≡ Taken.Did → is_live ≡ true }
     ensures either { (result ≡ Taken.Nothing) ⊎ (result ≡ Taken.Did) }
-    ensures over { turn.new.going ≡ false }
     ensures keeps { KeepsStage turn.old turn.new }
 {
     turn.going = false;
@@ -139,11 +126,13 @@ fn pop(board: &mut AskingBoard<OutboxDisk>, guest: u16, turn: &mut Turn) -> Take
     requires guest { guest < length board.old.devices }
     requires begun { turn.old.going ≡ true }
     ensures runs { (most : ℕ) → MayTake guest most board.old
-        → Runs guest most (standing [] true) board.old (stand_of turn.new) board.new }
+        → Runs guest most (standing [] true turn.old.looked) board.old (stand_of turn.new)
+        board.new }
     ensures taken { (most : ℕ) → MayTake guest most board.old
-        → IsTaken guest most (standing [] true) board.old turn.new board.new result }
+        → IsTaken guest most (standing [] true turn.old.looked) board.old turn.new board.new
+        result }
     ensures did { result ≡ Taken.Did → (most : ℕ) → MayTake guest most board.old
-        → TookSome guest most (standing [] true) board.old turn.new board.new }
+        → TookSome guest most (standing [] true turn.old.looked) board.old turn.new board.new }
     ensures count { length board.new.devices ≡ length board.old.devices }
     ensures keeps { KeepsStage turn.old turn.new }
 {
@@ -179,7 +168,8 @@ fn look(board: &mut AskingBoard<OutboxDisk>, guest: u16, turn: &mut Turn) -> Tak
     requires job { HasNoJob guest board.old.rest }
     requires guest { guest < length board.old.devices }
     ensures looks { (most : ℕ) → MayTake guest most board.old
-        → TakesOne guest most (standing [] turn.old.going) board.old turn.new board.new result }
+        → TakesOne guest most (standing [] turn.old.going turn.old.looked) board.old turn.new
+        board.new result }
     ensures count { length board.new.devices ≡ length board.old.devices }
     ensures keeps { KeepsStage turn.old turn.new }
 {
@@ -214,8 +204,8 @@ pub(crate) fn take_one(
 ) -> Taken
     requires parts { turn.old.parts ≡ [] }
     requires guest { guest < length board.old.devices }
-    ensures takes { TakesOne guest most (standing [] turn.old.going) board.old turn.new board.new
-        result }
+    ensures takes { TakesOne guest most (standing [] turn.old.going turn.old.looked) board.old
+        turn.new board.new result }
     ensures count { length board.new.devices ≡ length board.old.devices }
     ensures keeps { KeepsStage turn.old turn.new }
 {

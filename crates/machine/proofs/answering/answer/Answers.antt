@@ -25,15 +25,15 @@ returns-in-Err-OutOfRange-clause-begins c =
     let refused = c.refuse-in-Err-OutOfRange in
     Stops (subst (λ b. RefusesIn c.args.guest b refused.new.board)
     c.in-Err-OutOfRange.ensures.same refused.ensures.refuses)
-    (ap stand_of refused.ensures.turn ∙ ap (λ t. standing [] t.going) c.turn.view_is)
+    (ap stand_of refused.ensures.turn ∙ ap (λ t. standing [] t.going t.looked) c.turn.view_is)
 
 pub returns-then-not-is_there-clause-begins : goal.returns-then-not-is_there-clause-begins
 returns-then-not-is_there-clause-begins c =
     Stops c.refuse.ensures.refuses
-    (ap stand_of c.refuse.ensures.turn ∙ ap (λ t. standing [] t.going) c.turn.view_is)
+    (ap stand_of c.refuse.ensures.turn ∙ ap (λ t. standing [] t.going t.looked) c.turn.view_is)
 
 pub returns-then-not-is_there-2-clause-begins : goal.returns-then-not-is_there-2-clause-begins
 returns-then-not-is_there-2-clause-begins c =
     let refused = c.refuse-then-not-is_there-2 in
     Stops refused.ensures.refuses
-    (ap stand_of refused.ensures.turn ∙ ap (λ t. standing [] t.going) c.turn.view_is)
+    (ap stand_of refused.ensures.turn ∙ ap (λ t. standing [] t.going t.looked) c.turn.view_is)

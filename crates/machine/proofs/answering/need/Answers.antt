@@ -18,10 +18,10 @@ use Rattle.machine.proofs.answering.need.Goals as goal
 
 -- what a device needed that was given up
 module _ (guest : ℕ) (n r : Next) (t t' : TurnState) (ps : List Range) (a b : Boards)
-    (from : left_by (Some n) t ≡ standing ps t.going) (turn : t' ≡ record t { parts = [] })
+    (from : left_by (Some n) t ≡ standing ps t.going t.looked) (turn : t' ≡ record t { parts = [] })
     (either : ((r ≡ next.Again) × IsGoing guest a) ⊎ (r ≡ next.Rest (Some fault.NoMemory)))
     (why : CantGoOn guest ps a) (refuses : RefusesIn guest a b) where
-  left_given : left_by (Some r) t' ≡ standing [] t.going
+  left_given : left_by (Some r) t' ≡ standing [] t.going t.looked
   left_given = elim either [
     | inl again ↦ ap (λ x. left_by (Some x) t') again.0 ∙ ap stand_of turn
     | inr memory ↦ ap (λ x. left_by (Some x) t') memory ∙ ap stand_of turn
@@ -30,8 +30,9 @@ module _ (guest : ℕ) (n r : Next) (t t' : TurnState) (ps : List Range) (a b : 
   given_runs : (most : ℕ) → Runs guest most (left_by (Some n) t) a (left_by (Some r) t') b
   given_runs most =
       subst (λ s. Runs guest most s a (left_by (Some r) t') b) (sym from)
-      (subst (λ s. Runs guest most (standing ps t.going) a s b) (sym left_given)
-      (Voids (standing ps t.going) ps t.going a a b (Still (standing ps t.going) a) why refuses))
+      (subst (λ s. Runs guest most (standing ps t.going t.looked) a s b) (sym left_given)
+      (Voids (standing ps t.going t.looked) ps t.going t.looked a a b
+      (Still (standing ps t.going t.looked) a) why refuses))
 
   given_up : (r ≡ n) ⊎ ((r ≡ next.Rest (Some fault.NoMemory))
       ⊎ ((r ≡ next.Again)
@@ -43,8 +44,9 @@ module _ (guest : ℕ) (n r : Next) (t t' : TurnState) (ps : List Range) (a b : 
         before = a;
         parts = ps;
         going = t.going;
-        runs = subst (λ s. Runs guest most s a (standing ps t.going) a) (sym from)
-            (Still (standing ps t.going) a);
+        looked = t.looked;
+        runs = subst (λ s. Runs guest most s a (standing ps t.going t.looked) a) (sym from)
+            (Still (standing ps t.going t.looked) a);
         went_on = again.1;
         why = why;
         refuses = refuses;
@@ -64,7 +66,7 @@ pub returns-else-not-copy_part-clause-runs : goal.returns-else-not-copy_part-cla
 returns-else-not-copy_part-clause-runs c most =
     let t = c.args.turn.now in
     still_same c.args.guest most (left_by (Some c.args.next) t) _ c.args.board.now
-    (ap (λ v. standing (c.in-Write.part ∷ v.parts) v.going) c.turn-in-Write.view_is
+    (ap (λ v. standing (c.in-Write.part ∷ v.parts) v.going v.looked) c.turn-in-Write.view_is
     ∙ ap (λ n. left_by (Some n) t) (sym c.in-Write.is))
 
 pub returns-in-Again-clause-runs : goal.returns-in-Again-clause-runs

@@ -8,8 +8,8 @@ use Rattle.machine.proofs.leaving.leave_one.Goals as goal
 
 pub returns-then-is_none-clause-runs : goal.returns-then-is_none-clause-runs
 returns-then-is_none-clause-runs c most =
-    let s = standing [] c.args.turn.now.going in
-    subst (λ rs. Runs c.args.guest most s c.args.board.now (standing rs s.going) c.collect.new.self)
+    let s = standing [] c.args.turn.now.going c.args.turn.now.looked in
+    subst (λ rs. Runs c.args.guest most s c.args.board.now (standing rs s.going s.looked) c.collect.new.self)
     (sym c.requires.parts)
     (runs_step c.args.guest most s c.args.board.now c.collect.new.self
     (step.Collect c.args.guest) _ refl
@@ -28,11 +28,11 @@ returns-then-is_none-clause-nothing c is = (
 pub returns-then-not-prepare-clause-runs : goal.returns-then-not-prepare-clause-runs
 returns-then-not-prepare-clause-runs c most =
     let g = c.args.guest in
-    let s = standing [] c.args.turn.now.going in
+    let s = standing [] c.args.turn.now.going c.args.turn.now.looked in
     let t = c.prepare.new.turn in
-    subst (λ rs. Runs g most s c.args.board.now (standing rs t.going) c.prepare.new.board)
+    subst (λ rs. Runs g most s c.args.board.now (standing rs t.going t.looked) c.prepare.new.board)
     (sym (c.prepare.ensures.idle c.if-not-prepare.true))
-    (runs_twice g most s s (standing [] t.going) c.args.board.now c.collect.new.self
+    (runs_twice g most s s (standing [] t.going t.looked) c.args.board.now c.collect.new.self
     c.prepare.new.board
     (runs_step g most s c.args.board.now c.collect.new.self (step.Collect g) _ refl
     c.collect.ensures.steps) (c.prepare.ensures.runs most))
@@ -40,12 +40,13 @@ returns-then-not-prepare-clause-runs c most =
 pub returns-clause-runs : goal.returns-clause-runs
 returns-clause-runs c most =
     let g = c.args.guest in
-    let s = standing [] c.args.turn.now.going in
-    let begun = standing [] true in
+    let s = standing [] c.args.turn.now.going c.args.turn.now.looked in
+    let begun = standing [] true c.prepare.new.turn.looked in
     runs_twice g most s begun _ c.args.board.now c.prepare.new.board c.publish.new.board
-    (subst (λ v. Runs g most s c.args.board.now (standing [] v) c.prepare.new.board)
+    (subst (λ v. Runs g most s c.args.board.now (standing [] v c.prepare.new.turn.looked)
+    c.prepare.new.board)
     (c.prepare.ensures.begun (let is = c.if-not-prepare.false in cc))
-    (runs_twice g most s s (standing [] c.prepare.new.turn.going) c.args.board.now
+    (runs_twice g most s s (standing [] c.prepare.new.turn.going c.prepare.new.turn.looked) c.args.board.now
     c.collect.new.self
     c.prepare.new.board
     (runs_step g most s c.args.board.now c.collect.new.self (step.Collect g) _ refl
@@ -65,12 +66,13 @@ publish-requires-clause-lies c =
 pub returns-clause-did : goal.returns-clause-did
 returns-clause-did c is most =
     let g = c.args.guest in
-    let s = standing [] c.args.turn.now.going in
-    let begun = standing [] true in
+    let s = standing [] c.args.turn.now.going c.args.turn.now.looked in
+    let begun = standing [] true c.prepare.new.turn.looked in
     then_does g most s begun _ c.args.board.now c.prepare.new.board c.publish.new.board
-    (subst (λ v. Runs g most s c.args.board.now (standing [] v) c.prepare.new.board)
+    (subst (λ v. Runs g most s c.args.board.now (standing [] v c.prepare.new.turn.looked)
+    c.prepare.new.board)
     (c.prepare.ensures.begun (let there = c.if-not-prepare.false in cc))
-    (runs_twice g most s s (standing [] c.prepare.new.turn.going) c.args.board.now
+    (runs_twice g most s s (standing [] c.prepare.new.turn.going c.prepare.new.turn.looked) c.args.board.now
     c.collect.new.self
     c.prepare.new.board
     (runs_step g most s c.args.board.now c.collect.new.self (step.Collect g) _ refl

@@ -1,4 +1,4 @@
-use Rattle.std.proofs.Common.{length, refl, ap, subst, ◌∙◌, Ok, Some, true, []}
+use Rattle.std.proofs.Common.{length, refl, ap, subst, ◌∙◌, Ok, Some, false, true, []}
 use Rattle.machine.proofs.Common.{OutboxMakes, outbox_state, stand_of, standing}
 use Rattle.board.specs.Asking.{PublishesOf}
 use Rattle.machine.proofs.Replies.{handed_count, hands_by, hands_does, noted_reply}
@@ -6,9 +6,10 @@ use Rattle.machine.proofs.Popping.{still_by}
 use Rattle.machine.proofs.leaving.publish.Goals as goal
 
 pub returns-in-Err-clause-runs : goal.returns-in-Err-clause-runs
-returns-in-Err-clause-runs c most = still_by c.args.guest most true (stand_of c.void.new.self)
-    c.args.board.now c.publish.new.self
-    (ap stand_of c.void.ensures ∙ ap (λ v. standing [] v) c.requires.begun)
+returns-in-Err-clause-runs c most =
+    let w = c.args.turn.now.looked in
+    still_by c.args.guest most true w (stand_of c.void.new.self) c.args.board.now
+    c.publish.new.self (ap stand_of c.void.ensures ∙ ap (λ v. standing [] v w) c.requires.begun)
     c.in-Err.ensures.same
 
 pub returns-in-Ok-Some-Wrote-clause-runs : goal.returns-in-Ok-Some-Wrote-clause-runs
@@ -18,9 +19,10 @@ returns-in-Ok-Some-Wrote-clause-runs c most =
     let o = c.in-Ok-Some-Wrote in
     let hands = subst (λ p. PublishesOf outbox_state OutboxMakes g (Ok p) b c.publish.new.self)
     (o.field-0-is ∙ ap Some o.field-0-0-is) o.ensures in
-    hands_by g most _ _ _ b c.publish.new.self hands refl
-    (ap (λ t. t.parts) c.turn.view_is
-    ∙ noted_reply g _ b hands.device hands.done c.requires.noted hands.lay hands.its)
+    let t = c.args.turn.now in
+    hands_by g most t.looked t.parts _ _ b c.publish.new.self hands
+    (ap (λ v. standing v.parts false v.looked) c.turn.view_is)
+    (noted_reply g t.parts b hands.device hands.done c.requires.noted hands.lay hands.its)
 
 pub returns-in-Ok-Some-Dropped-clause-runs : goal.returns-in-Ok-Some-Dropped-clause-runs
 returns-in-Ok-Some-Dropped-clause-runs c most =
@@ -29,8 +31,8 @@ returns-in-Ok-Some-Dropped-clause-runs c most =
     let o = c.in-Ok-Some-Dropped in
     let hands = subst (λ p. PublishesOf outbox_state OutboxMakes g (Ok p) b c.publish.new.self)
     (o.field-0-is ∙ ap Some o.field-0-0-is) o.ensures in
-    hands_by g most _ _ _ b c.publish.new.self hands (ap (λ t. t.going) c.stop.ensures)
-    (ap (λ t. t.parts) c.stop.ensures)
+    hands_by g most c.args.turn.now.looked [] _ _ b c.publish.new.self hands (ap stand_of c.stop.ensures)
+    refl
 
 pub returns-in-Ok-Some-Wrote-clause-did : goal.returns-in-Ok-Some-Wrote-clause-did
 returns-in-Ok-Some-Wrote-clause-did c is most =
@@ -39,9 +41,10 @@ returns-in-Ok-Some-Wrote-clause-did c is most =
     let o = c.in-Ok-Some-Wrote in
     let hands = subst (λ p. PublishesOf outbox_state OutboxMakes g (Ok p) b c.publish.new.self)
     (o.field-0-is ∙ ap Some o.field-0-0-is) o.ensures in
-    hands_does g most _ _ _ b c.publish.new.self hands refl
-    (ap (λ t. t.parts) c.turn.view_is
-    ∙ noted_reply g _ b hands.device hands.done c.requires.noted hands.lay hands.its)
+    let t = c.args.turn.now in
+    hands_does g most t.looked t.parts _ _ b c.publish.new.self hands
+    (ap (λ v. standing v.parts false v.looked) c.turn.view_is)
+    (noted_reply g t.parts b hands.device hands.done c.requires.noted hands.lay hands.its)
 
 pub returns-in-Ok-Some-Dropped-clause-did : goal.returns-in-Ok-Some-Dropped-clause-did
 returns-in-Ok-Some-Dropped-clause-did c is most =
@@ -50,8 +53,8 @@ returns-in-Ok-Some-Dropped-clause-did c is most =
     let o = c.in-Ok-Some-Dropped in
     let hands = subst (λ p. PublishesOf outbox_state OutboxMakes g (Ok p) b c.publish.new.self)
     (o.field-0-is ∙ ap Some o.field-0-0-is) o.ensures in
-    hands_does g most _ _ _ b c.publish.new.self hands (ap (λ t. t.going) c.stop.ensures)
-    (ap (λ t. t.parts) c.stop.ensures)
+    hands_does g most c.args.turn.now.looked [] _ _ b c.publish.new.self hands (ap stand_of c.stop.ensures)
+    refl
 
 pub returns-in-Err-clause-count : goal.returns-in-Err-clause-count
 returns-in-Err-clause-count c = ap (λ b. length b.devices) c.in-Err.ensures.same

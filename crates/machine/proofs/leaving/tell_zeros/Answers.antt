@@ -35,7 +35,7 @@ own_part guest i ps a b d part lies noted rest queues its at =
     (noted_same guest ps a b rest queues noted) its) ∙ at)
 
 pub loop-i-init : goal.loop-i-init
-loop-i-init c = ((λ most ps v. Still (standing ps v) c.args.board.now), refl, refl, refl)
+loop-i-init c = ((λ most ps v w. Still (standing ps v w) c.args.board.now), refl, refl, refl)
 
 pub loop-i-preserved : goal.loop-i-preserved
 loop-i-preserved c =
@@ -51,11 +51,11 @@ loop-i-preserved c =
     c.requires.lies c.requires.noted c.loop-i.invariant.1 c.loop-i.invariant.2
     c.device.ensures.device
     (ap (λ v. slice_get v.parts c.loop-i.i) (sym c.turn.view_is) ∙ at) in (
-      (λ most ps v. runs_twice g most (standing ps v) (standing ps v)
-          (standing ps v) c.args.board.now b
-          (moved b g c.tell.new.self) (c.loop-i.invariant.0 most ps v)
-          (told_runs g b c.device.result.now c.tell.new.self c.device.ensures.device most ps v part
-          _
+      (λ most ps v w. runs_twice g most (standing ps v w) (standing ps v w)
+          (standing ps v w) c.args.board.now b
+          (moved b g c.tell.new.self) (c.loop-i.invariant.0 most ps v w)
+          (told_runs g b c.device.result.now c.tell.new.self c.device.ensures.device most ps v w
+          part _
           c.tell.result own (few_zeros c.min-count.result part.len c.min-count.ensures)
           (zeros c.min-count.result) t.ok t.unchanged)),
       c.loop-i.invariant.1,
@@ -65,7 +65,7 @@ loop-i-preserved c =
     )
 
 pub returns-then-is_err-clause-runs : goal.returns-then-is_err-clause-runs
-returns-then-is_err-clause-runs c most ps v =
+returns-then-is_err-clause-runs c most ps v w =
     let g = c.args.guest in
     let b = c.loop-i.board in
     let t = c.tell.ensures in
@@ -78,9 +78,9 @@ returns-then-is_err-clause-runs c most ps v =
     c.requires.lies c.requires.noted c.loop-i.invariant.1 c.loop-i.invariant.2
     c.device.ensures.device
     (ap (λ v. slice_get v.parts c.loop-i.i) (sym c.turn.view_is) ∙ at) in
-    runs_twice g most (standing ps v) (standing ps v) (standing ps v) c.args.board.now b
-    (moved b g c.tell.new.self) (c.loop-i.invariant.0 most ps v)
-    (told_runs g b c.device.result.now c.tell.new.self c.device.ensures.device most ps v part _
+    runs_twice g most (standing ps v w) (standing ps v w) (standing ps v w) c.args.board.now b
+    (moved b g c.tell.new.self) (c.loop-i.invariant.0 most ps v w)
+    (told_runs g b c.device.result.now c.tell.new.self c.device.ensures.device most ps v w part _
     c.tell.result own (few_zeros c.min-count.result part.len c.min-count.ensures)
     (zeros c.min-count.result) t.ok t.unchanged)
 

@@ -4,7 +4,7 @@ use Rattle.machine.specs.Serving.{QueuesStay}
 use Rattle.machine.proofs.leaving.tell_zeros.Given as goal
 
 abbrev pub invariant-loop-i : goal.invariant-loop-i
-invariant-loop-i l = ((most : ℕ) (ps : List Range) (v : Bool)
-    → Runs l.fn.guest most (standing ps v) l.fn.board (standing ps v) l.board)
+invariant-loop-i l = ((most : ℕ) (ps : List Range) (v w : Bool)
+    → Runs l.fn.guest most (standing ps v w) l.fn.board (standing ps v w) l.board)
     × (l.board.rest ≡ l.fn.board.rest) × QueuesStay l.fn.board l.board
     × (length l.board.devices ≡ length l.fn.board.devices)

@@ -19,7 +19,7 @@ returns-in-Some c =
       went = went_by g c.args.most (stand_of t) c.args.board.now t t' c.args.board.now b' _
           (subst (λ o. Runs g c.args.most (stand_of t) c.args.board.now
           (left_by o t') b') c.in-Some.is
-          (subst (λ ps. Runs g c.args.most (standing ps t.going) c.args.board.now
+          (subst (λ ps. Runs g c.args.most (standing ps t.going t.looked) c.args.board.now
           (left_by c.notify.result t') b') (sym c.requires.parts) (n.runs c.args.most)))
           (notified_needs g c.args.most (stand_of t) c.args.board.now t' b' (Some c.in-Some.next)
           needs)
@@ -38,7 +38,7 @@ returns-in-None c =
       went = went_after g c.args.most t t' c.take.new.turn c.args.board.now b' c.take.new.board _
           (subst (λ o. Runs g c.args.most (stand_of t) c.args.board.now
           (left_by o t') b') c.in-None.is
-          (subst (λ ps. Runs g c.args.most (standing ps t.going) c.args.board.now
+          (subst (λ ps. Runs g c.args.most (standing ps t.going t.looked) c.args.board.now
           (left_by c.notify.result t') b') (sym c.requires.parts) (n.runs c.args.most)))
           n.count n.asked c.take.ensures.went;
     }

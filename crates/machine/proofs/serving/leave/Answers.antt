@@ -21,9 +21,9 @@ returns-in-NoMemory c =
     record {
       went = went_by g c.args.most s a c.args.turn.now c.take_next.new.self a b _
           (runs_twice g c.args.most s t u a b b
-          (subst (λ ps. Runs g c.args.most (standing ps s.going) a t b) (sym c.requires.parts)
+          (subst (λ ps. Runs g c.args.most (standing ps s.going s.looked) a t b) (sym c.requires.parts)
           (c.leave_one.ensures.runs c.args.most))
-          (gives_up g c.args.most t.parts t.going u b (ap stand_of c.take_next.ensures)))
+          (gives_up g c.args.most t.parts t.going t.looked u b (ap stand_of c.take_next.ensures)))
           (lacks g c.args.most fault.NoMemory s a c.take_next.new.self b refl) tt
           c.leave_one.ensures.count
           (ap (λ v. v.asked) c.take_next.ensures ∙ c.leave_one.ensures.keeps.1);
@@ -37,7 +37,7 @@ returns-in-Nothing c =
     record {
       went = went_after g c.args.most t l.turn c.call.new.turn c.args.board.now l.board
           c.call.new.board _
-          (subst (λ ps. Runs g c.args.most (standing ps t.going) c.args.board.now
+          (subst (λ ps. Runs g c.args.most (standing ps t.going t.looked) c.args.board.now
           (stand_of l.turn) l.board)
           (sym c.requires.parts) (c.leave_one.ensures.runs c.args.most))
           c.leave_one.ensures.count c.leave_one.ensures.keeps.1 c.call.ensures.went;

@@ -13,9 +13,9 @@ returns-in-Some c =
     let s = stand_of c.args.turn.now in
     let t = stand_of c.next_part.new.self in
     let part = c.in-Some.part in
-    let first = still_same g c.args.most s (standing (part ∷ t.parts) t.going) b
-    (ap (λ v. standing (part ∷ t.parts) v.going) c.next_part.ensures.rest
-    ∙ ap (λ qs. standing qs s.going) (sym c.in-Some.ensures.some)) in
+    let first = still_same g c.args.most s (standing (part ∷ t.parts) t.going t.looked) b
+    (ap (λ v. standing (part ∷ t.parts) v.going v.looked) c.next_part.ensures.rest
+    ∙ ap (λ qs. standing qs s.going s.looked) (sym c.in-Some.ensures.some)) in
     record {
       went = went_by g c.args.most s b c.args.turn.now c.next_part.new.self b b
           (Some (next.Write part))

@@ -30,13 +30,15 @@ returns c =
     let none = ap (λ v. v.parts) c.take_next.ensures ∙ ap (λ v. v.parts) c.begin.ensures.turn
     ∙ c.requires.parts in
     let writes = sym c.has_write.ensures ∙ c.if-has_write.false in
+    let w = t.looked in
     let runs : (most : ℕ) → Runs g most (stand_of t) b (stand_of t') b' =
-    λ most. runs_twice g most (stand_of t) (standing [] true) (stand_of t') b b' b'
-    (subst (λ qs. Runs g most (standing qs t.going) b (standing [] true) b')
-    (sym c.requires.parts) (c.begin.ensures.runs most))
-    (gives_up g most [] true (stand_of t') b'
-    (ap stand_of c.take_next.ensures ∙ ap (λ v. standing v.parts false) c.begin.ensures.turn
-    ∙ ap (λ ps. standing ps false) c.requires.parts)) in
+    λ most. runs_twice g most (stand_of t) (standing [] true w) (stand_of t') b b' b'
+    (subst (λ qs. Runs g most (standing qs t.going w) b (standing [] true w) b')
+    (sym c.requires.parts) (c.begin.ensures.runs most w))
+    (gives_up g most [] true w (stand_of t') b'
+    (ap stand_of c.take_next.ensures
+    ∙ ap (λ v. standing v.parts false v.looked) c.begin.ensures.turn
+    ∙ ap (λ ps. standing ps false w) c.requires.parts)) in
     record {
       went = λ most s z ended. went_by g most s z t t' b b' _ (runs most)
           (rest_needs g most s z t' b' c.args.fault

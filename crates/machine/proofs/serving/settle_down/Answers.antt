@@ -15,15 +15,15 @@ use Rattle.machine.proofs.serving.settle_down.Goals as goal
 -- what was accepted is handed on first
 module _ (guest most : ℕ) (a b d : Boards) (t : TurnState) (u : Stand) (none : t.parts ≡ [])
     (first : (most : ℕ) (s : Stand) → Runs guest most s a s b) where
-  handed : Runs guest most (standing [] t.going) b u d → Runs guest most (stand_of t) a u d
+  handed : Runs guest most (standing [] t.going t.looked) b u d → Runs guest most (stand_of t) a u d
   handed rest = runs_twice guest most (stand_of t) (stand_of t) u a b d (first most (stand_of t))
-      (subst (λ ps. Runs guest most (standing ps t.going) b u d) (sym none) rest)
+      (subst (λ ps. Runs guest most (standing ps t.going t.looked) b u d) (sym none) rest)
 
-  handed_does : DoesSome guest most (standing [] t.going) b u d
+  handed_does : DoesSome guest most (standing [] t.going t.looked) b u d
       → DoesSome guest most (stand_of t) a u d
   handed_does rest = then_does guest most (stand_of t) (stand_of t) u a b d (first most
       (stand_of t))
-      (subst (λ ps. DoesSome guest most (standing ps t.going) b u d) (sym none) rest)
+      (subst (λ ps. DoesSome guest most (standing ps t.going t.looked) b u d) (sym none) rest)
 
 pub returns-then-hand_all : goal.returns-then-hand_all
 returns-then-hand_all c =
@@ -90,7 +90,7 @@ returns-in-NoMemory c =
       went = λ most s z ended. went_by g most s z t t' a d _
           (runs_twice g most (stand_of t) (stand_of l.new.turn) (stand_of t') a d d
           (handed g most a h.new.board d t _ c.requires.parts h.ensures.runs (l.ensures.runs most))
-          (gives_up g most l.new.turn.parts l.new.turn.going (stand_of t') d
+          (gives_up g most l.new.turn.parts l.new.turn.going l.new.turn.looked (stand_of t') d
           (ap stand_of c.take_next.ensures)))
           (lacks g most fault.NoMemory s z t' d refl) tt (l.ensures.count
           ∙ ap length h.ensures.devices)
@@ -100,11 +100,11 @@ returns-in-NoMemory c =
 -- the driver was notified, or isn't to be
 module _ (guest most : ℕ) (a b d e : Boards) (t l : TurnState) (u : Stand) (none : t.parts ≡ [])
     (first : (most : ℕ) (s : Stand) → Runs guest most s a s b)
-    (second : Runs guest most (standing [] t.going) b (stand_of l) d) (empty : l.parts ≡ []) where
-  notified : Runs guest most (standing [] l.going) d u e → Runs guest most (stand_of t) a u e
+    (second : Runs guest most (standing [] t.going t.looked) b (stand_of l) d) (empty : l.parts ≡ []) where
+  notified : Runs guest most (standing [] l.going l.looked) d u e → Runs guest most (stand_of t) a u e
   notified third = runs_twice guest most (stand_of t) (stand_of l) u a d e
       (handed guest most a b d t (stand_of l) none first second)
-      (subst (λ ps. Runs guest most (standing ps l.going) d u e) (sym empty) third)
+      (subst (λ ps. Runs guest most (standing ps l.going l.looked) d u e) (sym empty) third)
 
 pub notify-requires-clause-parts : goal.notify-requires-clause-parts
 notify-requires-clause-parts c =

@@ -9,9 +9,9 @@ use Rattle.machine.proofs.serving.take.Goals as goal
 
 -- nothing is left to be copied out before
 from : (guest most : ℕ) (t : TurnState) (a b : Boards) (u : Stand) → t.parts ≡ []
-    → Runs guest most (standing [] t.going) a u b → Runs guest most (stand_of t) a u b
+    → Runs guest most (standing [] t.going t.looked) a u b → Runs guest most (stand_of t) a u b
 from guest most t a b u none runs =
-    subst (λ ps. Runs guest most (standing ps t.going) a u b) (sym none) runs
+    subst (λ ps. Runs guest most (standing ps t.going t.looked) a u b) (sym none) runs
 
 pub returns-in-Asks : goal.returns-in-Asks
 returns-in-Asks c =
@@ -23,7 +23,7 @@ returns-in-Asks c =
           o.turn c.args.board.now o.board _
           (from g c.args.most c.args.turn.now c.args.board.now o.board _ c.requires.parts
           e.takes.runs)
-          (subst (λ k. IsTaken g c.args.most (standing [] c.args.turn.now.going) c.args.board.now
+          (subst (λ k. IsTaken g c.args.most (standing [] c.args.turn.now.going c.args.turn.now.looked) c.args.board.now
           o.turn o.board k) c.in-Asks.is e.takes.became).0
           tt e.count e.keeps.1;
     }
@@ -40,9 +40,9 @@ returns-in-Some c =
     record {
       went = went_by g c.args.most (stand_of t) a t t' a o.board _
           (still_on g c.args.most (stand_of t) (stand_of o.turn) (standing
-          (part ∷ t'.parts) t'.going) a o.board
-          (ap (λ v. standing (part ∷ t'.parts) v.going) c.next_part.ensures.rest
-          ∙ ap (λ ps. standing ps o.turn.going) (sym c.in-Some.ensures.some))
+          (part ∷ t'.parts) t'.going t'.looked) a o.board
+          (ap (λ v. standing (part ∷ t'.parts) v.going v.looked) c.next_part.ensures.rest
+          ∙ ap (λ ps. standing ps o.turn.going o.turn.looked) (sym c.in-Some.ensures.some))
           (from g c.args.most t a o.board _ c.requires.parts e.takes.runs))
           tt tt e.count (ap (λ v. v.asked) c.next_part.ensures.rest ∙ e.keeps.1);
     }
@@ -56,7 +56,7 @@ returns-in-None c =
     let e = c.take_one.ensures in
     let t' = c.next_part.new.self in
     let none = c.next_part.ensures.none c.in-None.is in
-    let does : DoesSome g c.args.most (standing [] t.going) a (stand_of o.turn) o.board =
+    let does : DoesSome g c.args.most (standing [] t.going t.looked) a (stand_of o.turn) o.board =
     elim (e.takes.did c.in-Did.is) [
       | inl some ↦ some
       | inr parts ↦ absurd (parts none.0)
@@ -67,14 +67,14 @@ returns-in-None c =
           (from g c.args.most t a o.board _ c.requires.parts e.takes.runs))
           tt
           (subst (λ v. DoesSome g c.args.most (stand_of t) a (stand_of v) o.board) (sym none.1)
-          (subst (λ ps. DoesSome g c.args.most (standing ps t.going) a (stand_of o.turn) o.board)
+          (subst (λ ps. DoesSome g c.args.most (standing ps t.going t.looked) a (stand_of o.turn) o.board)
           (sym c.requires.parts) does))
           e.count (ap (λ v. v.asked) none.1 ∙ e.keeps.1);
     }
 
 pub settle_down-requires-clause-parts : goal.settle_down-requires-clause-parts
 settle_down-requires-clause-parts c =
-    (subst (λ k. IsTaken c.args.guest c.args.most (standing [] c.args.turn.now.going)
+    (subst (λ k. IsTaken c.args.guest c.args.most (standing [] c.args.turn.now.going c.args.turn.now.looked)
     c.args.board.now c.take_one.new.turn c.take_one.new.board k)
     c.in-Nothing.is c.take_one.ensures.takes.became).1
 
@@ -90,16 +90,16 @@ returns-in-Nothing c =
     record {
       went = went_on g most (stand_of t) a t o.turn d.new.turn a o.board d.new.board d.result
           (from g c.args.most t a o.board _ c.requires.parts e.takes.runs) e.count e.keeps.1
-          (subst (λ ps. Went g most (standing ps t.going) a o.turn d.new.turn o.board d.new.board
+          (subst (λ ps. Went g most (standing ps t.going t.looked) a o.turn d.new.turn o.board d.new.board
           d.result) (sym c.requires.parts)
-          (d.ensures.went most (standing [] t.going) a
-          (subst (λ k. IsTaken g most (standing [] t.going) a o.turn o.board k) c.in-Nothing.is
+          (d.ensures.went most (standing [] t.going t.looked) a
+          (subst (λ k. IsTaken g most (standing [] t.going t.looked) a o.turn o.board k) c.in-Nothing.is
           e.takes.became).0));
     }
 
 pub settle_down-requires-in-Refused-clause-parts : goal.settle_down-requires-in-Refused-clause-parts
 settle_down-requires-in-Refused-clause-parts c =
-    (subst (λ k. IsTaken c.args.guest c.args.most (standing [] c.args.turn.now.going)
+    (subst (λ k. IsTaken c.args.guest c.args.most (standing [] c.args.turn.now.going c.args.turn.now.looked)
     c.args.board.now c.take_one.new.turn c.take_one.new.board k)
     c.in-Refused.is c.take_one.ensures.takes.became).1
 
@@ -115,9 +115,9 @@ returns-in-Refused c =
     record {
       went = went_on g most (stand_of t) a t o.turn d.new.turn a o.board d.new.board d.result
           (from g c.args.most t a o.board _ c.requires.parts e.takes.runs) e.count e.keeps.1
-          (subst (λ ps. Went g most (standing ps t.going) a o.turn d.new.turn o.board d.new.board
+          (subst (λ ps. Went g most (standing ps t.going t.looked) a o.turn d.new.turn o.board d.new.board
           d.result) (sym c.requires.parts)
-          (d.ensures.went most (standing [] t.going) a
-          (subst (λ k. IsTaken g most (standing [] t.going) a o.turn o.board k) c.in-Refused.is
+          (d.ensures.went most (standing [] t.going t.looked) a
+          (subst (λ k. IsTaken g most (standing [] t.going t.looked) a o.turn o.board k) c.in-Refused.is
           e.takes.became).0));
     }

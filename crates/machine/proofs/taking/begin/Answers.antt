@@ -9,14 +9,14 @@ use Rattle.machine.proofs.Moved.{moved, moved_at, moved_runs, moved_same}
 use Rattle.machine.proofs.taking.begin.Goals as goal
 
 pub returns-then-not-turn-clause-runs : goal.returns-then-not-turn-clause-runs
-returns-then-not-turn-clause-runs c most =
+returns-then-not-turn-clause-runs c most w =
     let g = c.args.guest in
     let b = c.args.board.now in
     let d = c.device.result.now in
     let d' = c.forget.new.self in
-    subst (λ v. Runs g most (standing [] v) b (standing [] true) (moved b g d'))
+    subst (λ v. Runs g most (standing [] v w) b (standing [] true w) (moved b g d'))
     (sym c.if-not-turn.true ∙ ap (λ t. t.going) c.turn.view_is)
-    (moved_runs g b d d' c.device.ensures.device most [] false true (λ off on. refl)
+    (moved_runs g b d d' c.device.ensures.device most [] false true w (λ off on. refl)
     (Forgets d d' c.forget.ensures))
 
 pub returns-then-not-turn-clause-devices : goal.returns-then-not-turn-clause-devices
@@ -45,7 +45,7 @@ returns-then-not-turn-clause-fresh c going =
     (forgotten c.device.result.now c.forget.new.self c.forget.ensures)
 
 pub returns-else-not-turn-clause-runs : goal.returns-else-not-turn-clause-runs
-returns-else-not-turn-clause-runs c most =
-    subst (λ v. Runs c.args.guest most (standing [] v) c.args.board.now (standing [] true)
+returns-else-not-turn-clause-runs c most w =
+    subst (λ v. Runs c.args.guest most (standing [] v w) c.args.board.now (standing [] true w)
     c.args.board.now) (sym c.if-not-turn.false ∙ ap (λ t. t.going) c.turn.view_is)
-    (Still (standing [] true) c.args.board.now)
+    (Still (standing [] true w) c.args.board.now)

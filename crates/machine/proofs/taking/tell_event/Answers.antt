@@ -34,7 +34,7 @@ popped_at None = None
 popped_at (Some a) = popped_by a.device.queue
 
 pub returns-in-Some-event-clause-runs : goal.returns-in-Some-event-clause-runs
-returns-in-Some-event-clause-runs c most ps g =
+returns-in-Some-event-clause-runs c most ps g w =
     let d = c.device.result.now in
     let part = c.in-Some-event.part in
     let own : popped_by d.device.queue ≡ Some part = elim c.match-device_of.branch [
@@ -43,10 +43,10 @@ returns-in-Some-event-clause-runs c most ps g =
       | in-None w ↦ absurd (let a = w.event-is in let b = c.in-Some-event.is in cc)
     ] in
     let two = sym (ap len_of own) ∙ two_bytes d.device.queue in
-    told_runs c.args.guest c.args.board.now d c.tell.new.self c.device.ensures.device most ps g part
+    told_runs c.args.guest c.args.board.now d c.tell.new.self c.device.ensures.device most ps g w part
     _
     c.tell.result (ByAPop own) (omega (arith, two)) (All-replicate (λ (v : ℕ). v ≡ 0) 2 0 refl)
     c.tell.ensures.ok c.tell.ensures.unchanged
 
 pub returns-in_default-clause-runs : goal.returns-in_default-clause-runs
-returns-in_default-clause-runs c most ps g = Still (standing ps g) c.args.board.now
+returns-in_default-clause-runs c most ps g w = Still (standing ps g w) c.args.board.now

@@ -28,12 +28,12 @@ loop-guest-preserved c =
     let l = c.loop-guest in
     let h = c.hand_all in (
       goes_more _ 0 c.args.self.now.board l.self-inside.board h.new.board l.invariant.0
-          (standing [] false) (h.ensures.runs 0 (standing [] false)),
+          (standing [] false false) (h.ensures.runs 0 (standing [] false false)),
       h.ensures.devices ∙ l.invariant.1,
       h.ensures.keeps.0 ∙ l.invariant.2,
       whole_twice c.args.self.now.board.rest l.self-inside.board.rest h.new.board.rest l.invariant.3
-          (runs_whole _ 0 (standing [] false) (standing [] false) l.self-inside.board h.new.board
-          (h.ensures.runs 0 (standing [] false))),
+          (runs_whole _ 0 (standing [] false false) (standing [] false false) l.self-inside.board h.new.board
+          (h.ensures.runs 0 (standing [] false false))),
       l.invariant.4,
       l.invariant.5,
       works_more l.guest c.args.self.now.board l.self-inside.board h.new.board l.invariant.0

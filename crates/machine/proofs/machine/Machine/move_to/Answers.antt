@@ -1,5 +1,5 @@
-use Rattle.std.proofs.Common.{sym, ◌∙◌}
-use Rattle.machine.specs.Resting.{CantStand, NoPlace, NotReady, NotResting, Nowhere}
+use Rattle.std.proofs.Common.{Some, subst, sym, ◌∙◌}
+use Rattle.machine.specs.Resting.{CantGoOn, CantStand, NoPlace, NotReady, NotResting, Nowhere}
 use Rattle.machine.proofs.machine.Machine.move_to.Goals as goal
 
 pub returns-in_default-clause-stays : goal.returns-in_default-clause-stays
@@ -17,4 +17,7 @@ returns-in_default-at-clause-stays c is =
 pub returns-clause-stays : goal.returns-clause-stays
 returns-clause-stays c stays =
     CantStand c.in-Some.it c.in-Some-queue.queue c.in-Some-at.moved c.in-Some.ensures.some
-    c.in-Some-queue.is (sym c.at.ensures ∙ c.in-Some-at.is) (c.go_on_as.ensures.cant stays)
+    c.in-Some-queue.is (sym c.at.ensures ∙ c.in-Some-at.is)
+    (subst (λ r. CantGoOn c.args.guest
+    (record { registers = r; queue = Some c.in-Some-at.moved }) c.args.self.now)
+    c.notified.ensures (c.go_on_as.ensures.cant stays))

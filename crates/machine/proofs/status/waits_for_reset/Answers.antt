@@ -1,0 +1,17 @@
+use Rattle.std.proofs.Common.{◌≡◌, IfSome, true, ap, subst, sym}
+use Rattle.std.specs.Prelude.{nat_eq, ◌/◌, ◌%◌}
+use Rattle.machine.proofs.Common.{AskingState}
+use Rattle.machine.proofs.Going.{going_by}
+use Rattle.machine.proofs.status.waits_for_reset.Goals as goal
+
+pub returns-in-Some : goal.returns-in-Some
+returns-in-Some c =
+    subst (λ o. IfSome o (λ (a : AskingState). a.device.registers.status.needs_reset
+    ≡ nat_eq (c.read.result / 64 % 2) 1)) c.in-Some.ensures
+    (going_by c.in-Some.device.now.device _
+    (ap (λ v. nat_eq (v / 64 % 2) 1) (sym c.read.ensures)))
+
+pub returns-in-None : goal.returns-in-None
+returns-in-None c =
+    subst (λ o. IfSome o (λ (a : AskingState). a.device.registers.status.needs_reset ≡ true))
+    c.in-None.ensures tt
