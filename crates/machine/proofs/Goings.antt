@@ -126,8 +126,8 @@ module _ (guest most : ℕ) where
 module _ (guest most : ℕ) (f : MachineFault) where
   pub then_reason : (s t v : Stand) (a b d : Boards) → Runs guest most s a t b
       → HasReason guest most f t b v d → HasReason guest most f s a v d
-  then_reason s t v a b d first (PopRefused l m x y e before makes is after) =
-      PopRefused l m x y e (runs_twice guest most s t
+  then_reason s t v a b d first (PopRefused l x y e before makes is after) =
+      PopRefused l x y e (runs_twice guest most s t
       (standing [] true l) a b x first before) makes is after
   then_reason s t v a b d first (BookRefused w x y e before makes is after) =
       BookRefused w x y e (runs_twice guest most s t w a b x first before) makes is after
@@ -135,9 +135,9 @@ module _ (guest most : ℕ) (f : MachineFault) where
 
   pub reason_then : (s t v : Stand) (a b d : Boards) → HasReason guest most f s a t b
       → Runs guest most t b v d → HasReason guest most f s a v d
-  reason_then s t v a b d (PopRefused l m x y e before makes is after) more =
-      PopRefused l m x y e before makes is
-      (runs_twice guest most (standing [] false m) t v y b d after more)
+  reason_then s t v a b d (PopRefused l x y e before makes is after) more =
+      PopRefused l x y e before makes is
+      (runs_twice guest most (standing [] false l) t v y b d after more)
   reason_then s t v a b d (BookRefused w x y e before makes is after) more =
       BookRefused w x y e before makes is (runs_twice guest most w t v y b d after more)
   reason_then s t v a b d (Lacks is) more = Lacks is

@@ -113,10 +113,10 @@ reason_of (step_fault.Store e) = fault.DiskFault
 -- out, or for what was told.
 pub data HasReason (guest most : ℕ) (f : MachineFault) (s : Stand) (a : Boards) (v : Stand)
     (d : Boards) : Type 0 where
-  PopRefused : (w x : Bool) (b c : Boards) (e : StepFault)
+  PopRefused : (w : Bool) (b c : Boards) (e : StepFault)
       → Runs guest most s a (standing [] true w) b
       → Makes (step.Pop guest) (Err e) b c → f ≡ reason_of e
-      → Runs guest most (standing [] false x) c v d
+      → Runs guest most (standing [] false w) c v d
       → HasReason guest most f s a v d
   BookRefused : (t : Stand) (b c : Boards) (e : StepFault) → Runs guest most s a t b
       → Makes (step.Submit guest) (Err e) b c → f ≡ reason_of e → Runs guest most t c v d

@@ -60,7 +60,7 @@ returns-in-Err-Refused-clause-taken c most fewer =
     let makes = subst (λ e. PopsAsked outbox_state OutboxMakes c.args.guest (Err e)
     c.args.board.now c.pop.new.self) c.in-Err-Refused.field-0-is c.in-Err-Refused.ensures.pops in
     let w = c.args.turn.now.looked in (
-      PopRefused w w c.args.board.now c.pop.new.self (fault.Device c.in-Err-Refused.fault)
+      PopRefused w c.args.board.now c.pop.new.self (fault.Device c.in-Err-Refused.fault)
           (Still (standing [] true w) c.args.board.now) makes c.of_device.ensures
           (still_by c.args.guest most false w (stand_of c.stop.new.self) c.pop.new.self
           c.pop.new.self (ap stand_of c.stop.ensures
