@@ -32,12 +32,14 @@ def check_made(room, image, call):
         raise Wrong(f"rpmbd format of no file {image}, disk {call}: {ran}, and folders synced: {folders(folder)}")
 
 
-def check_kept(room):
-    """Where the file is there, no folder is synced."""
-    folder = room.folder({"board.toml": ONE, "board.img": b"short"})
+def check_kept(room, content):
+    """Where the file is there, its folder is synced only if it has no byte yet: a stop may have left it so, before its
+    name was kept."""
+    folder = room.folder({"board.toml": ONE, "board.img": content})
     ran = room.run(folder, words("format"), "disk 0")
-    if ran[:3] != FORMATTED or folders(folder):
-        raise Wrong(f"rpmbd format of a file: {ran}, and folders synced: {folders(folder)}")
+    synced = [] if content else [os.stat(folder).st_ino]
+    if ran[:3] != FORMATTED or folders(folder) != synced:
+        raise Wrong(f"rpmbd format of a file of {len(content)} bytes: {ran}, and folders synced: {folders(folder)}")
 
 
 def check_length(room, verb, before, after):
@@ -60,27 +62,46 @@ def check_twins(room, has_image):
             raise Wrong(f"rpmbd {verb}, where all files have one number, each on a device of its own: {ran}")
 
 
-def check_asked(room, answer, script, content):
-    """A person who types `format` over an image with a key, or what is no image, is asked first; over an image without
-    a key, or an empty file, it is made at once."""
-    folder = room.folder({"board.toml": ONE, "script.txt": script, "board.img": content})
-    if script and room.run(folder, words("run"))[0]:
-        raise Wrong("rpmbd run makes no image with a key")
-    with open(f"{folder}/board.img", "rb") as it:
-        before = it.read()
+def asked_to_format(room, answer, image, refuse=""):
+    """What `format` at a terminal says over an image, with this answer, and what it leaves."""
+    folder = room.folder({"board.toml": ONE, "board.img": image})
     person, terminal = os.openpty()
     os.write(person, f"{answer}\n".encode())
-    ran = room.run(folder, words("format"), stdin=terminal)
+    ran = room.run(folder, words("format"), refuse, stdin=terminal)
     os.close(terminal)
     os.close(person)
     with open(f"{folder}/board.img", "rb") as it:
-        after = it.read()
-    lost = "a key" if script else "" if content in (fresh(), b"") else "what is no image of this board"
+        return ran, it.read()
+
+
+def with_key(room):
+    """An image whose guest has a key."""
+    folder = room.folder({"board.toml": ONE, "script.txt": key_line(0), "board.img": fresh()})
+    if room.run(folder, words("run"))[0]:
+        raise Wrong("rpmbd run makes no image with a key")
+    with open(f"{folder}/board.img", "rb") as it:
+        return it.read()
+
+
+def check_asked(room, answer, image, lost):
+    """A person who types `format` over an image with a key, or what is no image, is asked first; over an image without
+    a key, or an empty file, it is made at once."""
+    ran, after = asked_to_format(room, answer, image)
     told = f"board.img holds {lost}, gone after this. Type yes to go on: " if lost else ""
     is_made = not lost or answer == "yes"
     wanted = (0, FORMATTED[1], told) if is_made else (1, "", f"{told}{FILE_FAULT}board.img: is left as it is\n")
-    if ran[:3] != wanted or after != (fresh() if is_made else before):
+    if ran[:3] != wanted or after != (fresh() if is_made else image):
         raise Wrong(f"rpmbd format at a terminal, answered {answer}: {ran}")
+
+
+def check_asked_in_want(room, image):
+    """Whichever allocation is refused, an image with a key stays where the answer is no."""
+    for number in itertools.count(1):
+        ran, after = asked_to_format(room, "no", image, f"alloc {number}")
+        if ran[0] != 1 or ran[1] or after != image:
+            raise Wrong(f"rpmbd format at a terminal, alloc {number}: {ran}")
+        if ran[3]["alloc"] < number:
+            return number
 
 
 def sweep_image_files(room):
@@ -88,15 +109,23 @@ def sweep_image_files(room):
     made = [(image, call) for image in ("board.img", "images/board.img") for call in range(1, 21)]
     for _ in each(lambda it: check_made(room, *it), made):
         pass
-    check_kept(room)
+    check_kept(room, b"short")
+    check_kept(room, b"")
     length = len(fresh())
     lengths = list(itertools.product(("run", "serve", "show", "upgrade"), ((length + 1, length), (length, 5))))
     for verb, (before, after) in lengths:
         check_length(room, verb, before, after)
     for has_image in (False, True):
         check_twins(room, has_image)
+    keyed = with_key(room)
     for answer in ("yes", "no", ""):
-        check_asked(room, answer, key_line(0), fresh())
-        for content in (fresh(), b"", b"a letter", fresh() + b"\0"):
-            check_asked(room, answer, "", content)
-    print(f"image files: {len(made)} made, {len(lengths)} given another length by who held them, 4 beside their twins")
+        check_asked(room, answer, keyed, "a key")
+        for content in (fresh(), b""):
+            check_asked(room, answer, content, "")
+        for content in (b"a letter", fresh() + b"\0"):
+            check_asked(room, answer, content, "what is no image of this board")
+    wants = check_asked_in_want(room, keyed)
+    print(
+        f"image files: {len(made)} made, {len(lengths)} given another length by who held them, 4 beside their twins, "
+        f"{wants} kept by a no"
+    )

@@ -3,29 +3,60 @@
 use crate::fault::Fault;
 use crate::image_files::open_shown;
 use crate::reason::Refusal;
-use disk::Disk;
-use recovery::open;
+use crate::shown_file::ShownFile;
+use disk::{Disk, FileDisk};
+use recovery::{OpenFault, open};
 use rpmb_frame::BoardConfig;
+use std::alloc::Global;
 use std::io;
 use std::io::{BufRead, BufReader, IsTerminal};
 
-/// What a person would lose with what a file holds: nothing where it isn't there, is empty, or holds
-/// an image of the board without a key. None stands for a want of memory too.
-fn loss(rt: &HostRuntime, path: &str, board: &BoardConfig) -> Option<String> {
-    let alloc = rt.alloc();
-    let disk = open_shown(rt, path).ok()?;
-    if disk.len() == 0 {
-        return None;
-    }
+/// How many keys the board's image holds on a disk; None where the disk holds no such image.
+/// `NoMemory` where memory was refused.
+fn keys_on(
+    alloc: Global,
+    disk: FileDisk<ShownFile>,
+    board: &BoardConfig,
+) -> Result<Option<usize>, Refusal> {
     match open(alloc, disk, board) {
-        Ok((_, partitions)) => {
-            match partitions.iter().filter(|p| p.key().is_some()).count() {
-                0 => None,
-                1 => format!(in alloc; "{path} holds a key").ok(),
-                keys => format!(in alloc; "{path} holds {keys} keys").ok(),
-            }
+        Ok((_store, partitions)) => {
+            Ok(Some(partitions.iter().filter(|p| p.key().is_some()).count()))
         }
-        Err(_) => format!(in alloc; "{path} holds what is no image of this board").ok(),
+        Err((_disk, fault)) => {
+            if fault == OpenFault::NoMemory {
+                return Err(Refusal::no_memory());
+            }
+            Ok(None)
+        }
+    }
+}
+
+/// What a person would lose with what a file holds: nothing where it holds an image of the board
+/// without a key, or is empty; nor where it can't be opened to be looked at, since then none is made
+/// over it. `NoMemory` where memory was refused.
+fn loss(rt: &HostRuntime, path: &str, board: &BoardConfig) -> Result<Option<String>, Refusal> {
+    let alloc = rt.alloc();
+    let disk = match open_shown(rt, path) {
+        Ok(disk) => disk,
+        Err(refusal) => {
+            if refusal.fault == Fault::NoMemory {
+                return Err(refusal);
+            }
+            return Ok(None);
+        }
+    };
+    if disk.len() == 0 {
+        return Ok(None);
+    }
+    let words = match keys_on(alloc, disk, board)? {
+        Some(0) => return Ok(None),
+        Some(1) => format!(in alloc; "{path} holds a key"),
+        Some(keys) => format!(in alloc; "{path} holds {keys} keys"),
+        None => format!(in alloc; "{path} holds what is no image of this board"),
+    };
+    match words {
+        Ok(words) => Ok(Some(words)),
+        Err(_) => Err(Refusal::no_memory()),
     }
 }
 
@@ -49,7 +80,7 @@ pub(crate) fn ask_before_a_loss(
     if only_new || !rt.stdin().is_terminal() {
         return Ok(());
     }
-    let Some(loss) = loss(rt, path, board) else {
+    let Some(loss) = loss(rt, path, board)? else {
         return Ok(());
     };
     let _ = eprint!(rt; "{loss}, gone after this. Type yes to go on: ");

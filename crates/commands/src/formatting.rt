@@ -23,10 +23,7 @@ fn write_length<W: Write>(length: u64, out: &mut W) -> Result<(), Fault>
     if writeln!(out, "formatted {length}").is_err() {
         return Err(Fault::FileFault);
     }
-    match out.flush() {
-        Ok(()) => Ok(()),
-        Err(_) => Err(Fault::FileFault),
-    }
+    out.flush().or(Err(Fault::FileFault))
 }
 
 /// Makes a fresh image of the board over all that the disk holds, which has the image's length in

@@ -58,10 +58,7 @@ fn write_drivers<W: Write>(alloc: Global, drivers: &[DriverEnd], out: &mut W) ->
     for guest in 0..drivers.len() {
         write_answers(alloc, guest as u16, drivers[guest].answers.as_slice(), out)?;
     }
-    match out.flush() {
-        Ok(()) => Ok(()),
-        Err(_) => Err(Fault::FileFault),
-    }
+    out.flush().or(Err(Fault::FileFault))
 }
 
 /// Writes what threads have left, and gives the disk back.

@@ -194,10 +194,7 @@ fn write_listing<W: Write>(
     ensures only { (fault : Fault) → result ≡ Err fault → fault ≡ Fault.FileFault }
 {
     write_guests(partitions, as_json, out)?;
-    match out.flush() {
-        Ok(()) => Ok(()),
-        Err(_) => Err(Fault::FileFault),
-    }
+    out.flush().or(Err(Fault::FileFault))
 }
 
 /// Opens the image of the board, and lists its partitions, in lines, or in JSON objects. It gives

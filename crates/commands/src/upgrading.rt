@@ -29,10 +29,7 @@ fn write_done<W: Write>(done: Upgraded, out: &mut W) -> Result<(), Fault>
     if written.is_err() {
         return Err(Fault::FileFault);
     }
-    match out.flush() {
-        Ok(()) => Ok(()),
-        Err(_) => Err(Fault::FileFault),
-    }
+    out.flush().or(Err(Fault::FileFault))
 }
 
 /// Makes the image of the board one of version 2, and prints whether it did. At each moment every

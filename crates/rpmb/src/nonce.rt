@@ -17,10 +17,7 @@ fn random_bytes(rt: &HostRuntime) -> io::Result<[u8; 16]> {
 /// that is asked with it.
 pub fn random_nonce<'a>(rt: &HostRuntime) -> Result<String, Refusal<'a>> {
     match random_bytes(rt) {
-        Ok(bytes) => match hex::encode(rt.alloc(), &bytes) {
-            Ok(digits) => Ok(digits),
-            Err(_) => Err(Refusal::NoMemory),
-        },
+        Ok(bytes) => hex::encode(rt.alloc(), &bytes).or(Err(Refusal::NoMemory)),
         Err(_) => Err(Refusal::File(FileRefusal::Unread(SourceError::Failed), RANDOM)),
     }
 }

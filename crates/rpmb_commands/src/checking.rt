@@ -199,10 +199,7 @@ fn check_on<'a, S: Source, W: Write>(
     let cut = cut_script(alloc, source, script, &board.config, flaw)?;
     let image = board.image.as_deref();
     let state = check_image(alloc, source, file, &board.config, image, flaw)?;
-    match write_checked(board, state, cut, out) {
-        Ok(()) => Ok(()),
-        Err(_) => Err(Refusal::NoRoom),
-    }
+    write_checked(board, state, cut, out).or(Err(Refusal::NoRoom))
 }
 
 /// Writes `ok`, and what the board is good for, where `rpmbd run` reads the board file, and the

@@ -37,10 +37,7 @@ fn flush<'a, W: Write>(out: &mut W) -> Result<(), Refusal<'a>>
     ensures kept { Keeps (W.contents out.old) (W.contents out.new) }
     ensures other { IfErr result IsOther }
 {
-    match out.flush() {
-        Ok(()) => Ok(()),
-        Err(_) => Err(Refusal::NoRoom),
-    }
+    out.flush().or(Err(Refusal::NoRoom))
 }
 
 /// Says what the reply of a `used` line is, counts it, and lets that go out.

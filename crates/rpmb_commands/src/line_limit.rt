@@ -6,7 +6,7 @@ use std::io;
 use std::io::{BufRead, Read};
 
 /// The most bytes of a line with its line feed: 32 KiB, where the longest that `rpmbd run` prints
-/// has 16,399, and the longest line of a request that `rpmb` makes 17,424.
+/// has 16,398, and the longest line of a request that `rpmb` makes 17,424.
 const LINE_BYTES: u64 = 32_768;
 
 /// What a reader gives, up to a line of more bytes than any has. Of a longer one it fails by

@@ -28,10 +28,9 @@ fn take_line<'a>(alloc: Global, line: &str, finder: &mut Finder) -> Result<(), R
         → IsFinder nonce (lines ++ without_feed line.now ∷ []) finder.new) }
     ensures reading { IfErr result IsOfReading }
 {
-    match finder.take(alloc, without_end(line)) {
-        Ok(()) => Ok(()),
-        Err(_) => Err(Refusal::NoMemory),
-    }
+    finder
+        .take(alloc, without_end(line))
+        .or(Err(Refusal::NoMemory))
 }
 
 /// Gives the lines, each as it comes and in the same `line`, to what finds the answer among them.
@@ -107,10 +106,7 @@ fn give<'a, W: Write>(bytes: &[u8], out: &mut W) -> Result<(), Refusal<'a>>
     ensures printed { OnOk result (Appends (W.contents out.old) (W.contents out.new) bytes.now) }
     ensures err { IfErr result (λ refused. refused ≡ Refusal.NoRoom) }
 {
-    match out.write_all(bytes) {
-        Ok(()) => Ok(()),
-        Err(_) => Err(Refusal::NoRoom),
-    }
+    out.write_all(bytes).or(Err(Refusal::NoRoom))
 }
 
 /// Writes as many of these bytes as are wanted.

@@ -116,10 +116,7 @@ fn words_in<'a>(alloc: Global, matches: &ArgMatches<'a>) -> Result<Words<'a>, Wo
     let Some((name, inner)) = matches.subcommand() else {
         return Err(WordsError::NoMemory);
     };
-    match all_found(alloc, name, inner) {
-        Ok(words) => Ok(words),
-        Err(_) => Err(WordsError::NoMemory),
-    }
+    all_found(alloc, name, inner).or(Err(WordsError::NoMemory))
 }
 
 fn refused(error: clap::Error) -> WordsError {

@@ -59,10 +59,7 @@ fn bytes_of<'a, S: Source>(
     if !words.pad {
         return Ok(content);
     }
-    match pad(content) {
-        Ok(bytes) => Ok(bytes),
-        Err(_) => Err(Refusal::NoMemory),
-    }
+    pad(content).or(Err(Refusal::NoMemory))
 }
 
 /// Who writes, and where it begins.
