@@ -136,10 +136,7 @@ fn job_of(alloc: Global, kind: Kind, counter: u32) -> Result<Job, Stop> {
 impl<D: Desk> Books<D> {
     /// Makes of the job of this number what can be made before the book has it.
     fn prepare(&mut self, number: usize) -> Result<(), Stop> {
-        let spare = match self.spare.pop() {
-            Some(rooms) => rooms,
-            None => Rooms::none(self.alloc),
-        };
+        let spare = self.spare.pop().unwrap_or(Rooms::none(self.alloc));
         match self.jobs.get_mut(number) {
             Some(job) => {
                 job.prepare(self.alloc, self.limits, Some(&self.key), spare);

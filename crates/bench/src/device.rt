@@ -24,10 +24,8 @@ impl<D: Disk + Drop> Chains for Host<D> {
         if request.len() > LONGEST {
             return Err("too long a request");
         }
-        match self.chain(0, request, kind.writable()) {
-            Ok(answer) => Ok(answer),
-            Err(_) => Err("a chain without an answer"),
-        }
+        self.chain(0, request, kind.writable())
+            .or(Err("a chain without an answer"))
     }
 }
 

@@ -43,8 +43,6 @@ fn new_disk(alloc: Global, board: &BoardConfig) -> Result<MemDisk, Stop> {
 /// Such a board, and a disk in memory with its fresh image.
 pub fn new_image(alloc: Global, ring: RingKind) -> Result<(BoardSetup, MemDisk), Stop> {
     let setup = setup_of(alloc, ring)?;
-    match new_disk(alloc, setup.board()) {
-        Ok(disk) => Ok((setup, disk)),
-        Err(stop) => Err(stop),
-    }
+    let disk = new_disk(alloc, setup.board())?;
+    Ok((setup, disk))
 }

@@ -45,12 +45,10 @@ const ALONE: BoardFile = BoardFile {
 };
 
 /// One guest, or two, and boards of each key.
+#[rattlefmt::skip]
 static READ: [BoardFile; 6] = [
     ALONE,
-    BoardFile {
-        text: "# one guest\r\n[[guest]]\r\ncapacity = 0x1\r\n",
-        ..ALONE
-    },
+    BoardFile { text: "# one guest\r\n[[guest]]\r\ncapacity = 0x1\r\n", ..ALONE },
     BoardFile {
         text: "image = 'a b.img'\nguest = [{ capacity = 1, memory = 1_048_576 }]",
         image: "a b.img",
@@ -58,10 +56,7 @@ static READ: [BoardFile; 6] = [
     },
     BoardFile {
         text: "[[guest]]\ncapacity = 1\nmemory = 271296\n",
-        last: GuestConfig {
-            memory: 271_296,
-            ..DEFAULTS
-        },
+        last: GuestConfig { memory: 271_296, ..DEFAULTS },
         ..ALONE
     },
     BoardFile {
@@ -69,33 +64,16 @@ static READ: [BoardFile; 6] = [
             ring = 'split'\nqueue = 2\nmemory = 65536\nmax_rd_cnt = 1\nmax_wr_cnt = 1
             capacity = 128",
         count: 2,
-        last: GuestConfig {
-            capacity: 128,
-            max_wr_cnt: 1,
-            max_rd_cnt: 1,
-            memory: 65_536,
-        },
-        driver: DriverConfig {
-            queue: 2,
-            event_idx: false,
-            ..DRIVER
-        },
+        last: GuestConfig { capacity: 128, max_wr_cnt: 1, max_rd_cnt: 1, memory: 65_536 },
+        driver: DriverConfig { queue: 2, event_idx: false, ..DRIVER },
         ..ALONE
     },
     // The places of a packed ring are any number, and its layout is a little smaller.
     BoardFile {
         text: "[[guest]]\ncapacity = 1\nring = 'packed'\nindirect = true\nqueue = 3
             memory = 65536",
-        last: GuestConfig {
-            memory: 65_536,
-            ..DEFAULTS
-        },
-        driver: DriverConfig {
-            queue: 3,
-            ring: RingKind::Packed,
-            indirect: true,
-            ..DRIVER
-        },
+        last: GuestConfig { memory: 65_536, ..DEFAULTS },
+        driver: DriverConfig { queue: 3, ring: RingKind::Packed, indirect: true, ..DRIVER },
         ..ALONE
     },
 ];

@@ -17,57 +17,12 @@ fn saved<M: Calls>(rig: &Rig<M>, guest: u16) -> Option<Words> {
 
 /// A split queue of 16 of which two chains were used, VIRTIO_F_VERSION_1, DRIVER_OK; the line is
 /// high.
+#[rattlefmt::skip]
 static WORDS: Words = [
-    0x424d_5052,
-    1,
-    50,
-    1,
-    0,
-    1,
-    16,
-    16,
-    65_536,
-    256,
-    0,
-    0,
-    0, //
-    0,
-    0,
-    1,
-    1,
-    0,
-    16,
-    0x1000,
-    0,
-    0x2000,
-    0,
-    0x3000,
-    0, //
-    1,
-    0,
-    1,
-    1,
-    1,
-    1,
-    0,
-    0, //
-    1,
-    0,
-    0,
-    0,
-    16,
-    0x1000,
-    0,
-    0x2000,
-    0,
-    0x3000,
-    0,
-    2,
-    0,
-    2,
-    0,
-    0,
-    0,
+    0x424d_5052, 1, 50, 1, 0, 1, 16, 16, 65_536, 256, 0, 0, 0,
+    0, 0, 1, 1, 0, 16, 0x1000, 0, 0x2000, 0, 0x3000, 0,
+    1, 0, 1, 1, 1, 1, 0, 0,
+    1, 0, 0, 0, 16, 0x1000, 0, 0x2000, 0, 0x3000, 0, 2, 0, 2, 0, 0, 0,
 ];
 
 /// A key and a counter, and what is saved then.

@@ -61,6 +61,7 @@ const SPLIT_TABLE: [u8; 64] = [
 ];
 
 // INDIRECT_DESC, EVENT_IDX and VERSION_1.
+#[rattlefmt::skip]
 static SPLIT: Case = Case {
     features: (0x3000_0000, 1),
     pop: &[
@@ -73,11 +74,7 @@ static SPLIT: Case = Case {
         (DEVICE + 68, 2, &[]),
     ],
     request: &[42, 43, 44, 45, 46],
-    publication: &[
-        (REPLY, 512, &[]),
-        (DEVICE + 4, 8, &[]),
-        (DEVICE + 2, 2, &[]),
-    ],
+    publication: &[(REPLY, 512, &[]), (DEVICE + 4, 8, &[]), (DEVICE + 2, 2, &[])],
     wish: (DRIVER + 20, 2, &[]), // used_event: at the first
     notified: true,
     next: &[(DRIVER + 2, 2, &[1, 0]), (DEVICE + 68, 2, &[])],

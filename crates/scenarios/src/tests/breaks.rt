@@ -9,6 +9,7 @@ use std::test::Fail;
 
 /// A read before the key, the key, a write, a read and a lone request for the result, of which the
 /// key alone is settled when the store breaks.
+#[rattlefmt::skip]
 static BROKEN: [Line; 22] = [
     Line::Ask(0, Asked::Counter(1)),
     Line::Ask(0, Asked::Key(0x11)),
@@ -16,8 +17,7 @@ static BROKEN: [Line; 22] = [
     Line::Ask(0, Asked::Write(0xa5, 0)),
     Line::Ask(0, Asked::Counter(2)),
     Line::Ask(0, Asked::LastResult),
-    Line::Run,
-    Line::Settle,
+    Line::Run, Line::Settle,
     Line::IsBroken(false),
     Line::BreakOff,
     Line::BreakOff,
@@ -34,10 +34,7 @@ static BROKEN: [Line; 22] = [
     Line::Ask(0, Asked::Write(0x66, 1)),
     Line::Failure(0, 1, 0x0300),
     Line::Counter(0, 1),
-    Line::GiveThis {
-        guest: 0,
-        intent: OF_A_WRITE,
-    },
+    Line::GiveThis { guest: 0, intent: OF_A_WRITE },
 ];
 
 #[test]

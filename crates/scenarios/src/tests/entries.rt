@@ -9,14 +9,12 @@ use std::test::Fail;
 
 /// Guest 1 reads the counter, programs its key, writes and reads the counter once more. What it
 /// asked leaves as the store settles it.
+#[rattlefmt::skip]
 static REPLIES: [Line; 22] = [
     Line::Life(LIFE),
     Line::Ask(1, Asked::Counter(1)),
     Line::Ask(1, Asked::Key(0x11)),
-    Line::GiveThis {
-        guest: 1,
-        intent: OF_A_KEY,
-    },
+    Line::GiveThis { guest: 1, intent: OF_A_KEY },
     // The write comes while the key is on its way.
     Line::Ask(1, Asked::Write(0xa5, 0)),
     Line::Ask(1, Asked::Counter(2)),
@@ -31,10 +29,7 @@ static REPLIES: [Line; 22] = [
     // While the write isn't settled, neither its reply leaves nor that to what was asked after it.
     Line::NoReply(1),
     Line::NoIntent(0),
-    Line::GiveThis {
-        guest: 1,
-        intent: OF_A_WRITE,
-    },
+    Line::GiveThis { guest: 1, intent: OF_A_WRITE },
     Line::NoIntent(1),
     Line::NoReply(1),
     Line::Run,
@@ -52,13 +47,11 @@ fn replies_wait_for_what_they_show(rt: HostRuntime) -> Result<(), Fail> {
 
 /// Writes of 16 blocks and of one, up to the last block: they are taken whole. A write past it is
 /// refused, and leaves no intent.
+#[rattlefmt::skip]
 static WHOLE: [&[Line]; 3] = [
     &[
         Line::Ask(0, Asked::Key(0x11)),
-        Line::GiveThis {
-            guest: 0,
-            intent: OF_A_KEY,
-        },
+        Line::GiveThis { guest: 0, intent: OF_A_KEY },
         Line::Run,
         Line::Ask(0, Asked::Blocks(496, 16, 0)),
         Line::GiveThis {
@@ -75,30 +68,19 @@ static WHOLE: [&[Line]; 3] = [
     ],
     &[
         Line::Ask(0, Asked::Key(0x11)),
-        Line::GiveThis {
-            guest: 0,
-            intent: OF_A_KEY,
-        },
+        Line::GiveThis { guest: 0, intent: OF_A_KEY },
         Line::Run,
         Line::Ask(0, Asked::Blocks(511, 1, 0)),
         Line::GiveThis {
             guest: 0,
-            intent: Group {
-                address: 511,
-                first: Some(1),
-                last: Some(1),
-                ..OF_A_WRITE
-            },
+            intent: Group { address: 511, first: Some(1), last: Some(1), ..OF_A_WRITE },
         },
         Line::NoIntent(0),
     ],
     &[
         Line::Ask(0, Asked::Key(0x11)),
         Line::Ask(0, Asked::Blocks(511, 2, 0)),
-        Line::GiveThis {
-            guest: 0,
-            intent: OF_A_KEY,
-        },
+        Line::GiveThis { guest: 0, intent: OF_A_KEY },
         Line::NoIntent(0),
     ],
 ];
@@ -112,6 +94,7 @@ fn writes_are_taken_whole(rt: HostRuntime) -> Result<(), Fail> {
 }
 
 /// Six requests wait: a Take gives four, the key first, and the next one the two that are left.
+#[rattlefmt::skip]
 static GROUPED: [Line; 13] = [
     Line::Ask(0, Asked::Key(0x11)),
     Line::Ask(0, Asked::Write(0xa0, 0)),
@@ -119,14 +102,7 @@ static GROUPED: [Line; 13] = [
     Line::Ask(0, Asked::Write(0xa2, 2)),
     Line::Ask(0, Asked::Write(0xa3, 3)),
     Line::Ask(0, Asked::Write(0xa4, 4)),
-    Line::GiveThis {
-        guest: 0,
-        intent: Group {
-            requests: 4,
-            sequence: 4,
-            ..OF_A_KEY
-        },
-    },
+    Line::GiveThis { guest: 0, intent: Group { requests: 4, sequence: 4, ..OF_A_KEY } },
     Line::Run,
     Line::Mark(0, 4),
     Line::GiveThis {

@@ -66,11 +66,10 @@ fn what_stands_behind_a_held_reply_stays(rt: HostRuntime) -> Result<(), Fail> {
 /// Guest 0 programs its key and writes, and guest 2, which has no key, reads. Of guest 1 a read,
 /// its key and another read are held when the history rolls first. It rolls once more when those
 /// have left.
+#[rattlefmt::skip]
 static KEPT: [Line; 43] = [
     Line::Ask(0, Asked::Key(0x11)),
-    Line::Give(0),
-    Line::Run,
-    Line::Settle,
+    Line::Give(0), Line::Run, Line::Settle,
     Line::Reply(0, 1, 1, Tail(0, 0, 1, 0, 0x0100)),
     Line::Reads(2, 8_000),
     Line::Writes(0, 0, 6),
@@ -88,8 +87,7 @@ static KEPT: [Line; 43] = [
             ..OF_A_WRITE
         },
     },
-    Line::Run,
-    Line::Settle,
+    Line::Run, Line::Settle,
     Line::Reply(0, 1, 8, Tail(7, 0, 1, 0, 0x0300)),
     Line::Reply(0, 1, 9, Tail(8, 0, 1, 0, 0x0300)),
     Line::Reads(2, 8_200),
@@ -111,12 +109,7 @@ static KEPT: [Line; 43] = [
     Line::Writes(0, 11, 1),
     Line::Reply(1, 1, 0, Tail(0, 0, 1, 7, 0x0200)),
     Line::NoReply(1),
-    Line::GiveThis {
-        guest: 1,
-        intent: OF_A_KEY,
-    },
-    Line::Run,
-    Line::Settle,
+    Line::GiveThis { guest: 1, intent: OF_A_KEY }, Line::Run, Line::Settle,
     Line::Reply(1, 1, 1, Tail(0, 0, 1, 0, 0x0100)),
     Line::Reply(1, 1, 1, Tail(0, 0, 1, 0, 0x0200)),
     Line::NoReply(1),
@@ -134,13 +127,12 @@ fn what_was_written_stays_where_the_history_rolls(rt: HostRuntime) -> Result<(),
 
 /// The store breaks before the history rolls, and then after it. Of guest 1 a key that is settled,
 /// and a write and a read that aren't, are held over both.
+#[rattlefmt::skip]
 static BROKEN: [&[Line]; 2] = [
     &[
         Line::Reads(0, 16_000),
         Line::Ask(1, Asked::Key(0x11)),
-        Line::Give(1),
-        Line::Run,
-        Line::Settle,
+        Line::Give(1), Line::Run, Line::Settle,
         Line::Ask(1, Asked::Write(0xa5, 0)),
         Line::Ask(1, Asked::Counter(2)),
         Line::BreakOff,
@@ -155,9 +147,7 @@ static BROKEN: [&[Line]; 2] = [
     &[
         Line::Reads(0, 16_000),
         Line::Ask(1, Asked::Key(0x11)),
-        Line::Give(1),
-        Line::Run,
-        Line::Settle,
+        Line::Give(1), Line::Run, Line::Settle,
         Line::Ask(1, Asked::Write(0xa5, 0)),
         Line::Ask(1, Asked::Counter(2)),
         Line::Reads(0, 400),
@@ -177,10 +167,7 @@ static BROKEN: [&[Line]; 2] = [
         Line::Failure(1, 1, 0x0300),
         Line::Counter(1, 1),
         Line::Holds(1, 0xa5),
-        Line::GiveThis {
-            guest: 1,
-            intent: OF_A_WRITE,
-        },
+        Line::GiveThis { guest: 1, intent: OF_A_WRITE },
         Line::NoIntent(1),
         Line::Turns(32_798),
     ],

@@ -3,17 +3,20 @@
 //! b"".join(frame[228:] for frame in frames), "sha256")`. Fields that a reply doesn't repeat aren't
 //! zeros in the requests: each frame has a key_mac of its own, and so for the others.
 
-use crate::tests::partitions::steps::Scenario;
+use crate::tests::partitions::steps::{Scenario, Step};
+
+#[rattlefmt::skip]
+const LAST_BLOCK: &[Step] = &[
+    (2, 512, 0x0000, 1), // PROGRAM_KEY with its result
+    (2, 512, 0x0000, 1), // DATA_WRITE of the last block
+    (3, 512, 0x0004, 1), // of it and the one behind it
+    (1, 1024, 0x0000, 2), // DATA_READ of the last two blocks
+];
 
 /// The last block of a partition of 2 units.
 #[rattlefmt::skip]
 pub static CAPACITY_2: Scenario = Scenario {
-    steps: &[
-        (2, 512, 0x0000, 1), // PROGRAM_KEY with its result
-        (2, 512, 0x0000, 1), // DATA_WRITE of the last block
-        (3, 512, 0x0004, 1), // of it and the one behind it
-        (1, 1024, 0x0000, 2), // DATA_READ of the last two blocks
-    ],
+    steps: LAST_BLOCK,
     requests: &[
         (0x90, [0x1111111111111111, 0x1111111111111111, 0x1111111111111111, 0x1111111111111111],
          0xc5, [0xd77d8b6b315d878a, 0x3325fb6217515010], 0x0a0000b5, 0x0bb5_0001_0db5_0001),
@@ -49,12 +52,7 @@ pub static CAPACITY_2: Scenario = Scenario {
 /// The last block of a partition of 128 units.
 #[rattlefmt::skip]
 pub static CAPACITY_128: Scenario = Scenario {
-    steps: &[
-        (2, 512, 0x0000, 1), // PROGRAM_KEY with its result
-        (2, 512, 0x0000, 1), // DATA_WRITE of the last block
-        (3, 512, 0x0004, 1), // of it and the one behind it
-        (1, 1024, 0x0000, 2), // DATA_READ of the last two blocks
-    ],
+    steps: LAST_BLOCK,
     requests: &[
         (0xb8, [0x1111111111111111, 0x1111111111111111, 0x1111111111111111, 0x1111111111111111],
          0xcd, [0x91c89e53d6dd1d95, 0x12c6ab4d7ee80856], 0x0a0000bd, 0x0bbd_0001_0dbd_0001),

@@ -189,24 +189,11 @@ const ORDER: Answer = Err(ChainFault::Order);
 
 const BAD_TABLE: Answer = Err(ChainFault::BadTable);
 
+#[rattlefmt::skip]
 static SPLIT: [Row; 9] = [
     // Two descriptors that name each other, and two entries of a table.
-    (
-        (0x4000, 8, NEXT, 1),
-        (0x4000, 8, NEXT, 0),
-        NONE,
-        NONE,
-        TOO_LONG,
-        UNUSED,
-    ),
-    (
-        (TABLE, 32, INDIRECT, 0),
-        NONE,
-        (0x4000, 8, NEXT, 1),
-        (0x4000, 8, NEXT, 0),
-        TOO_LONG,
-        UNUSED,
-    ),
+    ((0x4000, 8, NEXT, 1), (0x4000, 8, NEXT, 0), NONE, NONE, TOO_LONG, UNUSED),
+    ((TABLE, 32, INDIRECT, 0), NONE, (0x4000, 8, NEXT, 1), (0x4000, 8, NEXT, 0), TOO_LONG, UNUSED),
     // The last byte of the memory, and none behind it.
     ((SIZE - 1, 1, 0, 0), NONE, NONE, NONE, Ok(()), USED),
     ((SIZE, 0, 0, 0), NONE, NONE, NONE, Ok(()), USED),
@@ -214,36 +201,16 @@ static SPLIT: [Row; 9] = [
     ((SIZE - 1, 2, 0, 0), NONE, NONE, NONE, BAD_RANGE, UNUSED),
     ((u64::MAX, 1, 0, 0), NONE, NONE, NONE, BAD_RANGE, UNUSED),
     // A table in a table.
-    (
-        (TABLE, 32, INDIRECT, 0),
-        NONE,
-        (0x4000, 8, INDIRECT, 0),
-        PLAIN,
-        BAD_TABLE,
-        UNUSED,
-    ),
+    ((TABLE, 32, INDIRECT, 0), NONE, (0x4000, 8, INDIRECT, 0), PLAIN, BAD_TABLE, UNUSED),
     // Readable behind writable, in the ring and in a table.
-    (
-        (0x4000, 8, WRITE + NEXT, 1),
-        PLAIN,
-        NONE,
-        NONE,
-        ORDER,
-        UNUSED,
-    ),
-    (
-        (TABLE, 32, INDIRECT, 0),
-        NONE,
-        (0x4000, 8, WRITE + NEXT, 1),
-        PLAIN,
-        ORDER,
-        UNUSED,
-    ),
+    ((0x4000, 8, WRITE + NEXT, 1), PLAIN, NONE, NONE, ORDER, UNUSED),
+    ((TABLE, 32, INDIRECT, 0), NONE, (0x4000, 8, WRITE + NEXT, 1), PLAIN, ORDER, UNUSED),
 ];
 
 /// The first descriptor is used, with the id 7 and a reply of no bytes.
 const ANSWERED: [u8; 8] = [0, 0, 0, 0, 7, 0, 0x80, 0x80];
 
+#[rattlefmt::skip]
 static PACKED: [Row; 8] = [
     // NEXT in all four.
     (
@@ -256,31 +223,10 @@ static PACKED: [Row; 8] = [
     ),
     ((SIZE - 1, 1, 7, AVAIL), NONE, NONE, NONE, Ok(()), ANSWERED),
     ((SIZE, 0, 7, AVAIL), NONE, NONE, NONE, Ok(()), ANSWERED),
-    (
-        (SIZE - 1, 2, 7, AVAIL),
-        NONE,
-        NONE,
-        NONE,
-        BAD_RANGE,
-        [2, 0, 0, 0, 7, 0, 0x80, 0],
-    ),
-    (
-        (u64::MAX, 1, 7, AVAIL),
-        NONE,
-        NONE,
-        NONE,
-        BAD_RANGE,
-        [1, 0, 0, 0, 7, 0, 0x80, 0],
-    ),
+    ((SIZE - 1, 2, 7, AVAIL), NONE, NONE, NONE, BAD_RANGE, [2, 0, 0, 0, 7, 0, 0x80, 0]),
+    ((u64::MAX, 1, 7, AVAIL), NONE, NONE, NONE, BAD_RANGE, [1, 0, 0, 0, 7, 0, 0x80, 0]),
     // In a table WRITE is the only flag that counts, so that INDIRECT names no other.
-    (
-        (TABLE, 32, 7, AVAIL + INDIRECT),
-        NONE,
-        (0x4000, 8, 0, INDIRECT),
-        PLAIN,
-        Ok(()),
-        ANSWERED,
-    ),
+    ((TABLE, 32, 7, AVAIL + INDIRECT), NONE, (0x4000, 8, 0, INDIRECT), PLAIN, Ok(()), ANSWERED),
     (
         (0x4000, 8, 7, AVAIL + WRITE + NEXT),
         (0x4000, 8, 7, AVAIL),

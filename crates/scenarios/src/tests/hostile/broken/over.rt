@@ -9,30 +9,17 @@ use std::test::Fail;
 /// A chain with room for a frame over the ring itself: the used ring of a split one, the
 /// descriptors of a packed one. The reply is a frame of zeros but for its result, and goes first;
 /// the used fields stand over it.
+#[rattlefmt::skip]
 static OVER_THE_RING: [(Kind, u64, Row); 2] = [
     (
         Kind::Split,
         0x3000,
-        (
-            (0x3000, 512, WRITE, 0),
-            NONE,
-            NONE,
-            NONE,
-            Ok(()),
-            [1, 0, 0, 0, 0, 0, 0, 2],
-        ),
+        ((0x3000, 512, WRITE, 0), NONE, NONE, NONE, Ok(()), [1, 0, 0, 0, 0, 0, 0, 2]),
     ),
     (
         Kind::Packed,
         0x1000,
-        (
-            (0x1000, 512, 7, AVAIL + WRITE),
-            NONE,
-            NONE,
-            NONE,
-            Ok(()),
-            [0, 2, 0, 0, 7, 0, 0x82, 0x80],
-        ),
+        ((0x1000, 512, 7, AVAIL + WRITE), NONE, NONE, NONE, Ok(()), [0, 2, 0, 0, 7, 0, 0x82, 0x80]),
     ),
 ];
 
