@@ -4,7 +4,7 @@ import itertools
 import os
 
 from failing import ONE, fresh, listings, words
-from programs import DISK_FAULT, FILE_FAULT, Wrong, each, key_line
+from programs import DISK_FAULT, FILE_FAULT, KINDS, NO_MEMORY, Wrong, each, key_line
 
 FORMATTED = (0, "formatted 167424\n", "")
 NOT_FORMATTED = (1, "", "rpmbd: 12 NotFormatted\n")
@@ -94,13 +94,24 @@ def check_asked(room, answer, image, lost):
         raise Wrong(f"rpmbd format at a terminal, answered {answer}: {ran}")
 
 
-def check_asked_in_want(room, image):
-    """Whichever allocation is refused, an image with a key stays where the answer is no."""
+def told_at_a_fault(told, lost):
+    """Whether this is what `format` at a terminal may tell where a call fails, and the answer is no: a fault, or the
+    question and the end that comes behind it. Where the image can't be read, the question says that."""
+    if told in (NO_MEMORY, FILE_FAULT, DISK_FAULT):
+        return True
+    question, is_asked, end = told.partition(", gone after this. Type yes to go on: ")
+    holds = {f"board.img holds {it}" for it in (lost, "what can't be read", "what is no image of this board")}
+    ends = (FILE_FAULT, f"{FILE_FAULT}board.img: is left as it is\n", f"{NO_MEMORY}standard input: out of memory\n")
+    return is_asked and question in holds and (end in ends or end.startswith(f"{FILE_FAULT}standard input: "))
+
+
+def check_asked_at_a_fault(room, kind, image, lost):
+    """Whichever call of a kind fails, what a file holds stays where the answer is no."""
     for number in itertools.count(1):
-        ran, after = asked_to_format(room, "no", image, f"alloc {number}")
-        if ran[0] != 1 or ran[1] or after != image:
-            raise Wrong(f"rpmbd format at a terminal, alloc {number}: {ran}")
-        if ran[3]["alloc"] < number:
+        ran, after = asked_to_format(room, "no", image, f"{kind} {number}")
+        if ran[0] != 1 or ran[1] or after != image or not told_at_a_fault(ran[2], lost):
+            raise Wrong(f"rpmbd format at a terminal, {kind} {number}: {ran}")
+        if ran[3][kind] < number:
             return number
 
 
@@ -124,8 +135,9 @@ def sweep_image_files(room):
             check_asked(room, answer, content, "")
         for content in (b"a letter", fresh() + b"\0"):
             check_asked(room, answer, content, "what is no image of this board")
-    wants = check_asked_in_want(room, keyed)
+    held = [(keyed, "a key"), (b"a letter", "what is no image of this board")]
+    kept = sum(check_asked_at_a_fault(room, kind, *it) for kind in KINDS for it in held)
     print(
         f"image files: {len(made)} made, {len(lengths)} given another length by who held them, 4 beside their twins, "
-        f"{wants} kept by a no"
+        f"{kept} kept by a no"
     )

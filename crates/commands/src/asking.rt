@@ -1,7 +1,7 @@
 //! What `format` asks a person before something is gone.
 
 use crate::fault::Fault;
-use crate::image_files::open_shown;
+use crate::image_files::{is_absent, open_shown};
 use crate::reason::Refusal;
 use crate::shown_file::ShownFile;
 use disk::{Disk, FileDisk};
@@ -11,48 +11,42 @@ use std::alloc::Global;
 use std::io;
 use std::io::{BufRead, BufReader, IsTerminal};
 
-/// How many keys the board's image holds on a disk; None where the disk holds no such image.
-/// `NoMemory` where memory was refused.
+/// How many keys the board's image holds on a disk.
 fn keys_on(
     alloc: Global,
     disk: FileDisk<ShownFile>,
     board: &BoardConfig,
-) -> Result<Option<usize>, Refusal> {
+) -> Result<usize, OpenFault> {
     match open(alloc, disk, board) {
-        Ok((_store, partitions)) => {
-            Ok(Some(partitions.iter().filter(|p| p.key().is_some()).count()))
-        }
-        Err((_disk, fault)) => {
-            if fault == OpenFault::NoMemory {
-                return Err(Refusal::no_memory());
-            }
-            Ok(None)
-        }
+        Ok((_store, partitions)) => Ok(partitions.iter().filter(|p| p.key().is_some()).count()),
+        Err((_disk, fault)) => Err(fault),
     }
 }
 
-/// What a person would lose with what a file holds: nothing where it holds an image of the board
-/// without a key, or is empty; nor where it can't be opened to be looked at, since then none is made
-/// over it. `NoMemory` where memory was refused.
+/// What a person would lose with what a file holds: nothing where it isn't there, is empty, or holds
+/// an image of the board without a key. Refused where it is there and can't be looked at, also for
+/// want of memory: who holds it now may be gone when it is made anew.
 fn loss(rt: &HostRuntime, path: &str, board: &BoardConfig) -> Result<Option<String>, Refusal> {
     let alloc = rt.alloc();
     let disk = match open_shown(rt, path) {
         Ok(disk) => disk,
         Err(refusal) => {
-            if refusal.fault == Fault::NoMemory {
-                return Err(refusal);
+            if is_absent(rt, path) {
+                return Ok(None);
             }
-            return Ok(None);
+            return Err(refusal);
         }
     };
     if disk.len() == 0 {
         return Ok(None);
     }
-    let words = match keys_on(alloc, disk, board)? {
-        Some(0) => return Ok(None),
-        Some(1) => format!(in alloc; "{path} holds a key"),
-        Some(keys) => format!(in alloc; "{path} holds {keys} keys"),
-        None => format!(in alloc; "{path} holds what is no image of this board"),
+    let words = match keys_on(alloc, disk, board) {
+        Ok(0) => return Ok(None),
+        Ok(1) => format!(in alloc; "{path} holds a key"),
+        Ok(keys) => format!(in alloc; "{path} holds {keys} keys"),
+        Err(OpenFault::NoMemory) => return Err(Refusal::no_memory()),
+        Err(OpenFault::DiskFault) => format!(in alloc; "{path} holds what can't be read"),
+        Err(_) => format!(in alloc; "{path} holds what is no image of this board"),
     };
     match words {
         Ok(words) => Ok(Some(words)),

@@ -200,7 +200,7 @@ fn sync_folder(rt: &HostRuntime, path: &str) -> io::Result<()> {
 }
 
 /// Whether nothing stands at a path, or a link leads from there to nothing.
-fn is_absent(rt: &HostRuntime, path: &str) -> bool {
+pub(crate) fn is_absent(rt: &HostRuntime, path: &str) -> bool {
     match fs::metadata(rt, path) {
         Ok(_) => false,
         Err(error) => error.kind() == io::ErrorKind::NotFound,
