@@ -1,6 +1,7 @@
 //! How long a worker of `rpmbd serve` calls the book, which it does under the book's lock: a Submit
 //! and a Collect for each request. Beside it stands what it does with no lock held: the MACs, and
-//! the memory of the answers. Neither waits for the lock nor what the flusher does under it is here.
+//! the memory of the answers. Neither waits for the lock nor what the flusher does under it is
+//! here.
 use crate::batches::{Subject, time_kind};
 use crate::clock::{Extent, NO_MEMORY, Row, Stop, Times, Took, now, plus, print_row, since};
 use crate::images::{LIFE, new_image};
@@ -128,7 +129,7 @@ fn job_of(alloc: Global, kind: Kind, counter: u32) -> Result<Job, Stop> {
         len: kind.writable(),
     };
     match Vec::from_slice(alloc, &[room]) {
-        Ok(writable) if put.is_ok() => Ok(Job::of(alloc, 0, 1, 0, 1, writable, request)),
+        Ok(writable) if put.is_ok() => Ok(Job::of(0, 1, 0, 1, writable, request)),
         _ => Err(NO_MEMORY),
     }
 }

@@ -138,7 +138,7 @@ impl<D: Desk> Scene<D> {
         let Ok(request) = result_read().to_vec(self.alloc) else {
             return false;
         };
-        let job = Job::of(self.alloc, guest, 1, 5, 3, Vec::new(self.alloc), request);
+        let job = Job::of(guest, 1, 5, 3, Vec::new(self.alloc), request);
         self.desk.offer(self.alloc, guest, job).is_ok()
     }
 

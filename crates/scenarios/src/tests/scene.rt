@@ -31,7 +31,7 @@ pub fn job_of(alloc: Global, guest: u16, session: u64, frames: &[[u8; 512]]) -> 
     let Ok(writable) = Vec::from_slice(alloc, &[Range { at: 0, len: 512 }]) else {
         return None;
     };
-    Some(Job::of(alloc, guest, session, 5, 3, writable, request))
+    Some(Job::of(guest, session, 5, 3, writable, request))
 }
 
 /// The frame that asks for the result.

@@ -1,6 +1,6 @@
-use Rattle.std.proofs.Common.{◌+◌, arith, ap, ◌∙◌, subst}
+use Rattle.std.proofs.Common.{◌+◌, arith, subst}
 use Rattle.std.proofs.Common.{drop, get_or}
-use Rattle.chains.proofs.Common.{Range, Buffers}
+use Rattle.chains.proofs.Common.{Range}
 use Rattle.chains.specs.Range.{AreHeld}
 use Rattle.guest_memory.specs.Memory.{IsHeld}
 use Rattle.chains.proofs.Helds.{held_more, held_none}
@@ -9,7 +9,7 @@ use Rattle.chains.proofs.chain.Chain.lacks.Goals as goal
 pub loop-range-preserved : goal.loop-range-preserved
 loop-range-preserved c =
     let m = c.args.memory.now in
-    let xs = c.deref-range-items.result.now in
+    let xs = c.writable-range-items.result.now in
     let i = c.loop-range.range-index in
     let d : Range = record { at = 0; len = 0 } in
     let left = c.loop-range.left in
@@ -24,9 +24,7 @@ loop-range-preserved c =
 pub returns-clause-none : goal.returns-clause-none
 returns-clause-none c = λ none.
     let m = c.args.memory.now in
-    let xs = c.deref-range-items.result.now in
-    let items = c.deref-range-items.ensures.value ∙ ap (λ (b : Buffers). b.writable)
-    c.self.view_is in
-    subst (λ v. AreHeld m v c.args.count) items
+    let xs = c.writable-range-items.result.now in
+    subst (λ v. AreHeld m v c.args.count) c.writable-range-items.ensures.ranges
     (c.loop-range.invariant.rest (held_none m xs c.loop-range.range-index c.loop-range.left
     c.loop-range-test.false))

@@ -1,6 +1,6 @@
 use Rattle.std.proofs.Common.{◌≡◌, ◌+◌, arith, ap, ◌∙◌, sym, subst, min}
 use Rattle.std.proofs.Common.{drop, get_or, length}
-use Rattle.chains.proofs.Common.{Range, Buffers}
+use Rattle.chains.proofs.Common.{Range}
 use Rattle.chains.specs.Range.{AreHeld, AreInside}
 use Rattle.guest_memory.specs.Memory.{Known, IsHeld}
 use Rattle.chains.proofs.Helds.{held_next, are_held_still, same_twice, put_same, scatter_more}
@@ -9,7 +9,7 @@ use Rattle.chains.proofs.chain.Chain.scatter.Goals as goal
 
 pub loop-range-preserved : goal.loop-range-preserved
 loop-range-preserved c =
-    let xs = c.deref-range-items.result.now in
+    let xs = c.writable-range-items.result.now in
     let i = c.loop-range.range-index in
     let d : Range = record { at = 0; len = 0 } in
     let left = length c.loop-range.left.now in
@@ -19,8 +19,7 @@ loop-range-preserved c =
     let back = c.split_at.ensures.back_len in
     let front = c.split_at.ensures.front_len in
     let size = c.loop-range.invariant.size in
-    let items : c.args.self.now.writable ≡ xs = sym
-    (c.deref-range-items.ensures.value ∙ ap (λ (b : Buffers). b.writable) c.self.view_is) in
+    let items : c.args.self.now.writable ≡ xs = sym c.writable-range-items.ensures.ranges in
     let inside = subst (AreInside (length c.args.memory.now.bytes)) items c.requires.inside i d
     c.loop-range-test.true in
     record {
@@ -42,7 +41,7 @@ loop-range-preserved c =
 
 pub put_part-requires-clause-held : goal.put_part-requires-clause-held
 put_part-requires-clause-held c = λ some.
-    let xs = c.deref-range-items.result.now in
+    let xs = c.writable-range-items.result.now in
     let i = c.loop-range.range-index in
     let d : Range = record { at = 0; len = 0 } in
     let left = length c.loop-range.left.now in

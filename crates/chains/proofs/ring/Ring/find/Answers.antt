@@ -25,6 +25,7 @@ returns-in_err-request-clause-copies g c =
     (rw c.in-Ok-Some.field-0-is at c.in-Ok-Some.ensures.seen) in
     rw (p.1, p.2) (believes_asked _ _ m _ _ _ _ _
     (λ ask of. OfBuffer (found_of walked)
-    (next_found m.bytes ring _ _ c.in-Ok-Some.start _ (g.met.R.Rules.next_is m.bytes c.args.self.now)
+    (next_found m.bytes ring _ _ c.in-Ok-Some.start _ (g.met.R.Rules.next_is m.bytes
+    c.args.self.now)
     begins found) of)
     c.in_err-request.ensures.asks seen)
