@@ -14,55 +14,56 @@ use Rattle.board.proofs.Moving.{made, steps_sound}
 -- 1. A keeper's steps, whatever stands beside the book and the keeper
 
 module _ {D : Type 0} (ds : List DeviceState → List DeviceState) (ts : List Tally → List Tally)
-    (js : List (Option Job) → List (Option Job)) (rs : List (Option Done) → List (Option Done)) where
-  abbrev pub beside : BoardState D → BoardState D
-  beside b = record b {
-    devices = ds b.devices;
-    tallies = ts b.tallies;
-    jobs = js b.jobs;
-    dones = rs b.dones;
-  }
-
-  module _ (answer : Answer) (old new : BoardState D) where
-    idles : Idles answer old new → Idles answer (beside old) (beside new)
-    idles i = (i.0, ap beside i.1)
-
-    pub takes : (g : ℕ) (place : Option (Option Intent)) → TakesInto g place answer old new
-        → TakesInto g place answer (beside old) (beside new)
-    takes g None does = idles does
-    takes g (Some (Some i)) does = idles does
-    takes g (Some None) does = (does.0, ap beside does.1)
-
-    pub gives : (g : ℕ) (free : Bool) (intent : Option Intent)
-        → GivesWhere g free intent answer old new
-        → GivesWhere g free intent answer (beside old) (beside new)
-    gives g false intent does = idles does
-    gives g true None does = idles does
-    gives g true (Some i) does = (does.0, ap beside does.1)
-
-    pub advances : (shows : D → DiskState) (makes : D → DiskCall → D → Type 0)
-        (report : Option Report) → AdvancesUnder shows makes report answer old new
-        → AdvancesUnder shows makes report answer (beside old) (beside new)
-    advances shows makes (Some report) does = idles does
-    advances shows makes None a = record {
-      progress = a.progress;
-      store = a.store;
-      round = a.round;
-      refused = a.refused;
-      cause = a.cause;
-      moves = a.moves;
-      moments = a.moments;
-      held = a.held;
-      front = a.front;
-      answers = a.answers;
-      after = ap beside a.after;
+    (js : List (Option Job) → List (Option Job)) (rs : List (Option Done) → List (Option Done))
+  where
+    abbrev pub beside : BoardState D → BoardState D
+    beside b = record b {
+      devices = ds b.devices;
+      tallies = ts b.tallies;
+      jobs = js b.jobs;
+      dones = rs b.dones;
     }
 
-    pub settles : (report : Option Report) → SettlesBy report answer old new
-        → SettlesBy report answer (beside old) (beside new)
-    settles None does = idles does
-    settles (Some (Marks marks)) does = (does.0, ap beside does.1)
-    settles (Some Fault) does = (does.0, ap beside does.1)
+    module _ (answer : Answer) (old new : BoardState D) where
+      idles : Idles answer old new → Idles answer (beside old) (beside new)
+      idles i = (i.0, ap beside i.1)
+
+      pub takes : (g : ℕ) (place : Option (Option Intent)) → TakesInto g place answer old new
+          → TakesInto g place answer (beside old) (beside new)
+      takes g None does = idles does
+      takes g (Some (Some i)) does = idles does
+      takes g (Some None) does = (does.0, ap beside does.1)
+
+      pub gives : (g : ℕ) (free : Bool) (intent : Option Intent)
+          → GivesWhere g free intent answer old new
+          → GivesWhere g free intent answer (beside old) (beside new)
+      gives g false intent does = idles does
+      gives g true None does = idles does
+      gives g true (Some i) does = (does.0, ap beside does.1)
+
+      pub advances : (shows : D → DiskState) (makes : D → DiskCall → D → Type 0)
+          (report : Option Report) → AdvancesUnder shows makes report answer old new
+          → AdvancesUnder shows makes report answer (beside old) (beside new)
+      advances shows makes (Some report) does = idles does
+      advances shows makes None a = record {
+        progress = a.progress;
+        store = a.store;
+        round = a.round;
+        refused = a.refused;
+        cause = a.cause;
+        moves = a.moves;
+        moments = a.moments;
+        held = a.held;
+        front = a.front;
+        answers = a.answers;
+        after = ap beside a.after;
+      }
+
+      pub settles : (report : Option Report) → SettlesBy report answer old new
+          → SettlesBy report answer (beside old) (beside new)
+      settles None does = idles does
+      settles (Some (Marks marks)) does = (does.0, ap beside does.1)
+      settles (Some Fault) does = (does.0, ap beside does.1)
 
 -- 2. The steps of all but the devices
 

@@ -331,4 +331,5 @@ pub steps_sound : {D : Type 0} (shows : D → DiskState) (makes : D → DiskCall
     (s : Step) (answer : Answer) (old new : BoardState D)
     → IsSound shows old → IsKnown old.book → Does shows makes s answer old new → IsSound shows new
 steps_sound shows makes effect s answer old new sound book does =
-    sound_moved shows makes old new sound (steps shows makes effect s answer old new sound book does).moves
+    sound_moved shows makes old new sound (steps shows makes effect s answer old new sound book
+    does).moves

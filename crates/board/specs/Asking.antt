@@ -6,7 +6,8 @@ use Rattle.guest_memory.specs.declared.ask.Ask.{Ask}
 use Rattle.rpmb_frame.specs.declared.config.GuestConfig.{GuestConfig}
 use Rattle.disk.specs.Disk.{DiskCall, DiskState}
 use Rattle.mmio_transport.specs.Asking.{AskingState, HasRoomIn, PopNeeds, PublishesAsked}
-use Rattle.mmio_transport.specs.Asking.{HoldsEvent, ReplyNeeds, SeesFault, SeesNext, first_asking, known}
+use Rattle.mmio_transport.specs.Asking.{HoldsEvent, ReplyNeeds, SeesFault, SeesNext, first_asking}
+use Rattle.mmio_transport.specs.Asking.{known}
 use Rattle.mmio_transport.specs.Publishing.{IsDueIn}
 use Rattle.mmio_transport.specs.Job.{Done, room_in}
 use Rattle.mmio_transport.specs.declared.done.Published.{Published}

@@ -111,8 +111,8 @@ impl<D: Disk> Keeper<D> {
         }
     }
 
-    /// The store of so many guests, of whom this was taken, with no intent and no report. `NoMemory`
-    /// where the host has no room for their places.
+    /// The store of so many guests, of whom this was taken, with no intent and no report.
+    /// `NoMemory` where the host has no room for their places.
     pub fn over(
         alloc: Global,
         shares: Shares,
@@ -167,7 +167,8 @@ impl<D: Disk> Keeper<D> {
         ensures stays { (self.new.shares ≡ self.old.shares)
             × (self.new.store.disk ≡ self.old.store.disk)
             × (self.new.store.broken ≡ self.old.store.broken) }
-        ensures fits { result ≡ true → AllFit (D.state self.old.store.disk).len self.old.store.guests }
+        ensures fits { result ≡ true
+            → AllFit (D.state self.old.store.disk).len self.old.store.guests }
         ensures held { (parts : ℕ → Part)
             → IsHeld parts self.old.store.guests self.old.store.broken
             (D.state self.old.store.disk)

@@ -11,7 +11,8 @@ use Rattle.clap.specs.Words.{new_rule, with_rule, with_subcommand}
 use Rattle.clap.specs.Kinds.{IsAmong, Kinds}
 use Rattle.clap.specs.Values.{kind_of}
 use Rattle.command_line.specs.declared.grammar.Files.{Files}
-use Rattle.command_line.specs.declared.grammar.Files.TheVariants.{Board, BoardAndScript, Fresh, Shown}
+use Rattle.command_line.specs.declared.grammar.Files.TheVariants.{Board, BoardAndScript, Fresh}
+use Rattle.command_line.specs.declared.grammar.Files.TheVariants.{Shown}
 use Rattle.command_line.specs.declared.words.WordsError.{WordsError}
 use Rattle.command_line.specs.declared.words.WordsError.TheVariants.{Incomplete, NoMemory, Refused}
 use Rattle.command_line.specs.declared.words.Values.{Values}

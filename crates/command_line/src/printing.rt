@@ -5,7 +5,8 @@ use clap::error::ErrorKind;
 use std::alloc::Global;
 use std::io;
 
-/// How `clap` begins to advise that an option which it doesn't know be taken for the name of a file.
+/// How `clap` begins to advise that an option which it doesn't know be taken for the name of a
+/// file.
 const TIP: &str = "\n  tip: to pass '";
 
 /// How it begins to advise `upgrade` in the place of `downgrade`.

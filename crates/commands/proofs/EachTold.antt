@@ -147,13 +147,14 @@ pub prints_each : (drivers : List DriverEnd) (configs : List DriverConfig)
     → ((g : ℕ) → g < n → map (asks g) (slice_index_or scripts g []) ≡ asked_of g lines)
     → Appends start now (guests_lines 0 (map (λ e. e.answers.items) drivers))
     → PrintsEach n configs lines start now
-prints_each drivers configs scripts lines n start now many as_many each_one all each printed = record {
-  answers = map (λ e. e.answers.items) drivers;
-  many = length-map drivers (λ (e : DriverEnd). e.answers.items) ∙ many;
-  ran = ran_each drivers configs scripts lines n many as_many all each;
-  each = told_each drivers configs scripts lines n many as_many each_one all each;
-  printed = printed;
-}
+prints_each drivers configs scripts lines n start now many as_many each_one all each printed =
+    record {
+      answers = map (λ e. e.answers.items) drivers;
+      many = length-map drivers (λ (e : DriverEnd). e.answers.items) ∙ many;
+      ran = ran_each drivers configs scripts lines n many as_many all each;
+      each = told_each drivers configs scripts lines n many as_many each_one all each;
+      printed = printed;
+    }
 
 -- and where they don't
 pub served_print : (n : ℕ) (configs : List DriverConfig) (lines : List Said)
@@ -201,7 +202,8 @@ pub serve_prints : (board : List GuestConfig) (configs : List DriverConfig) (scr
     → IfErr r (λ f. ServePrints board configs script f start now)
 serve_prints board configs script read start now (Ok done) was prints = tt
 serve_prints board configs script read start now (Err f) was prints = λ lines is.
-    subst (λ x. ServedPrint (length board) configs x f start now) (sym (says_same lines read _ is was))
+    subst (λ x. ServedPrint (length board) configs x f start now)
+    (sym (says_same lines read _ is was))
     prints
 
 -- of a script that isn't read, nothing

@@ -73,21 +73,22 @@ pub lists : (as_json : Bool) (capacities : List ℕ) (s : DiskState) (guests : L
     → (s.faithful ≡ true → AllStand s.seen guests partitions)
     → OnOk r (Appends start now (listing as_json partitions)) → OnOk r (All IsWhole partitions)
     → OnOk r (Lists as_json capacities s start now)
-lists as_json capacities s guests partitions start now (Ok done) begun stand printed is_whole = record {
-  partitions = partitions;
-  count = begun.all_partitions;
-  have = λ g p at.
-      let x = guest_of g p at in (
-        (begun.each g x.0 p x.1 at).capacity,
-        subst IsWhole (get_or_from_slice_get partitions g p p at)
-            (is_whole g p (slice_get_within partitions g p at)),
-      );
-  held = λ known g p at.
-      let x = guest_of g p at in
-      subst (λ region. Stands region s.seen (part_of p)) (begun.each g x.0 p x.1 at).region
-      (stand known g x.0 p x.1 at);
-  printed = printed;
-}
+lists as_json capacities s guests partitions start now (Ok done) begun stand printed is_whole =
+    record {
+      partitions = partitions;
+      count = begun.all_partitions;
+      have = λ g p at.
+          let x = guest_of g p at in (
+            (begun.each g x.0 p x.1 at).capacity,
+            subst IsWhole (get_or_from_slice_get partitions g p p at)
+                (is_whole g p (slice_get_within partitions g p at)),
+          );
+      held = λ known g p at.
+          let x = guest_of g p at in
+          subst (λ region. Stands region s.seen (part_of p)) (begun.each g x.0 p x.1 at).region
+          (stand known g x.0 p x.1 at);
+      printed = printed;
+    }
   where
     guest_of : (g : ℕ) (p : Partition) → slice_get partitions g ≡ Some p → (x : Guest)
         × (slice_get guests g ≡ Some x)

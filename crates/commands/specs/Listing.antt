@@ -1,6 +1,7 @@
 -- What `format` and `show` print.
 use Rattle.std.specs.Prelude.{◌≡◌, ℕ, zero, suc, List, [], ◌∷◌, ◌++◌, Option, Some, None, codes}
-use Rattle.std.specs.Prelude.{if◌then◌else◌, Bool, is_some, length, replicate, slice_get, slice_index}
+use Rattle.std.specs.Prelude.{if◌then◌else◌, Bool, is_some, length, replicate, slice_get}
+use Rattle.std.specs.Prelude.{slice_index}
 use Rattle.std.specs.Prelude.{true}
 use Rattle.std.specs.Fmt.{decimal}
 use Rattle.std.specs.Io.KnownBytes.{Appends}

@@ -23,9 +23,9 @@ fn keys_on(
     }
 }
 
-/// What a person would lose with what a file holds: nothing where it isn't there, is empty, or holds
-/// an image of the board without a key. Refused where it is there and can't be looked at, also for
-/// want of memory: who holds it now may be gone when it is made anew.
+/// What a person would lose with what a file holds: nothing where it isn't there, is empty, or
+/// holds an image of the board without a key. Refused where it is there and can't be looked at,
+/// also for want of memory: who holds it now may be gone when it is made anew.
 fn loss(rt: &HostRuntime, path: &str, board: &BoardConfig) -> Result<Option<String>, Refusal> {
     let alloc = rt.alloc();
     let disk = match open_shown(rt, path) {
@@ -61,10 +61,10 @@ fn is_agreed(rt: &HostRuntime) -> io::Result<bool> {
     Ok(line.as_str().trim() == "yes")
 }
 
-/// Where a person types the command, and the file holds an image of the board with keys, or anything
-/// that is no image of the board, says so and asks whether that may go. `FileFault` where the answer
-/// isn't `yes`; a script, whose standard input is no terminal, isn't asked. Where only a new file is
-/// made, none is lost, and nobody is asked.
+/// Where a person types the command, and the file holds an image of the board with keys, or
+/// anything that is no image of the board, says so and asks whether that may go. `FileFault` where
+/// the answer isn't `yes`; a script, whose standard input is no terminal, isn't asked. Where only a
+/// new file is made, none is lost, and nobody is asked.
 pub(crate) fn ask_before_a_loss(
     rt: &HostRuntime,
     path: &str,

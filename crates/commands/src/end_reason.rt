@@ -36,7 +36,8 @@ fn after_failure(command: Command<'_>) -> &'static str {
         }
         Command::Show { .. } => "What it keeps stays",
         Command::Upgrade { .. } => {
-            "What it keeps stays: make room, restart the machine if a sync failed, and upgrade it again"
+            "What it keeps stays: make room, restart the machine if a sync failed, and upgrade it \
+             again"
         }
         _ => {
             "If a sync failed restart the machine first; then ask for the counters before you go on"
@@ -95,7 +96,8 @@ fn left_memory(board: &BoardConfig, line: &Line) -> Option<u64> {
     if end > memory { Some(memory) } else { None }
 }
 
-/// Which line of the script stores beyond its guest's memory: the first one that does ended the run.
+/// Which line of the script stores beyond its guest's memory: the first one that does ended the
+/// run.
 fn misplaced(alloc: Global, task: Task<'_>) -> Option<String> {
     let lines = read_script(alloc, task.script, task.board().guests().len() as u16).ok()?;
     let place = lines

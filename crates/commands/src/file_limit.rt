@@ -1,6 +1,6 @@
-//! How long a file may be that this process writes. A write beyond that ends the process by a signal
-//! (SIGXFSZ), before anything can be told; so it is told before a file is made or opened. Where
-//! that signal is ignored, the write fails instead, and is told as each that fails.
+//! How long a file may be that this process writes. A write beyond that ends the process by a
+//! signal (SIGXFSZ), before anything can be told; so it is told before a file is made or opened.
+//! Where that signal is ignored, the write fails instead, and is told as each that fails.
 
 use crate::fault::Fault;
 use crate::reason::Refusal;

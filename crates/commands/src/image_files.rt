@@ -93,9 +93,9 @@ fn name_of_kind(kind: FileType) -> &'static str {
     }
 }
 
-/// Refused where the path leads to what is no plain file, before it is opened, which may wait, or do
-/// what nobody asked for. A folder is refused as it is opened, and what standard output writes into
-/// as that.
+/// Refused where the path leads to what is no plain file, before it is opened, which may wait, or
+/// do what nobody asked for. A folder is refused as it is opened, and what standard output writes
+/// into as that.
 fn check_kind(rt: &HostRuntime, path: &str) -> Result<(), Refusal> {
     if path.ends_with('/') {
         return Err(refused(rt, path, NO_NAME));
@@ -234,8 +234,8 @@ fn not_made(rt: &HostRuntime, path: &str, error: &io::Error) -> Refusal {
     }
 }
 
-/// What isn't there of a path that counts from the folder that the program was started in: the file,
-/// or its folder.
+/// What isn't there of a path that counts from the folder that the program was started in: the
+/// file, or its folder.
 fn not_here(rt: &HostRuntime, path: &str, what: &str, why: &str) -> Option<Refusal> {
     let folder = current_dir(rt).ok()?;
     let folder = folder.as_str();

@@ -24,7 +24,8 @@ use std::thread::Threads;
 /// The status of a command line that is refused.
 pub const REFUSED: u8 = 2;
 
-/// Room for the longest line, that of a reply of 8,192 bytes: two digits a byte, and 14 beside them.
+/// Room for the longest line, that of a reply of 8,192 bytes: two digits a byte, and 14 beside
+/// them.
 const LINE_ROOM: usize = 16_400;
 
 /// The status that tells how a command ended.
@@ -80,8 +81,8 @@ fn perform_script<R: AllocGlobal + Threads + Wait + Sync, W: Write>(
     }
 }
 
-/// Makes an image of the board, of the version that is asked for: a fresh image is of version 1, and
-/// becomes one of version 2 by what `upgrade` does.
+/// Makes an image of the board, of the version that is asked for: a fresh image is of version 1,
+/// and becomes one of version 2 by what `upgrade` does.
 fn perform_format<R: AllocGlobal + Threads + Wait + Sync, W: Write>(
     rt: &HostRuntime,
     threads: &R,

@@ -23,7 +23,8 @@ const NO_MORE_FILES: &str =
     "can't be opened, as too many files are open; close some, or raise their number (ulimit -n)";
 
 /// The system's numbers of errors that have no kind of their own: a stream that is closed, and too
-/// many files that are open, in the system or in this process (EBADF, ENFILE and EMFILE of errno(3)).
+/// many files that are open, in the system or in this process (EBADF, ENFILE and EMFILE of
+/// errno(3)).
 const CLOSED: i32 = 9;
 
 const SYSTEM_FILES: i32 = 23;
@@ -59,8 +60,8 @@ fn words_of(kind: io::ErrorKind) -> Option<&'static str> {
         io::ErrorKind::InvalidInput => Some(NO_PATH),
         io::ErrorKind::StorageFull => Some("no space left; make room"),
         io::ErrorKind::FileTooLarge => Some(
-            "is longer than you may write a file (ulimit -f), or than its disk takes; raise that, or \
-             name another",
+            "is longer than you may write a file (ulimit -f), or than its disk takes; raise that, \
+             or name another",
         ),
         io::ErrorKind::BrokenPipe => Some("who read it is gone"),
         _ => None,

@@ -141,11 +141,13 @@ writes : (d : CutState) (at : ℕ) (bytes : List ℕ) → IsCutDisk d → at + l
 unfolding succeeds counted after_write
 writes d at bytes sound fits = (let fits_flags : at + length bytes ≤ length d.unsynced =
     omega (arith, sound.flag_each) in record {
-      counts = counts_so d (after_write at bytes d) (length-written_seen (succeeds d) at bytes d.seen
+      counts = counts_so d (after_write at bytes d) (length-written_seen (succeeds d) at bytes
+          d.seen
           fits) refl;
       written = λ _ is k below. written_inside (succeeds d) at bytes d.seen k fits is below;
       outside = λ _ k outside. written_outside (succeeds d) at bytes d.seen k fits outside;
-      unsynced = λ _ k outside clear. marked_outside at (length bytes) d.unsynced k fits_flags outside
+      unsynced = λ _ k outside clear. marked_outside at (length bytes) d.unsynced k fits_flags
+          outside
           ∙ clear;
     })
 

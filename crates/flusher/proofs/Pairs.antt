@@ -171,8 +171,8 @@ module _ (region : Region) (side : Side) (c : Content) where
 
   module _ (p q : Part) (i j : Group) (follows : j.first ≡ last_of i + 1) (key : j.key ≡ i.key)
     where
-      -- The one gate is being shut while the other one opens: a stop leaves the partition before the
-      -- second group or after it.
+      -- The one gate is being shut while the other one opens: a stop leaves the partition before
+      -- the second group or after it.
       pub both_move : PhaseRow region (slot_region region side) p Closing i c
           → HasPayload region (slot_region region (other_side side)) j c → (part : Part)
           × StandsForTwo region c part × BeforeOrAfter p (Some j) part
@@ -212,8 +212,10 @@ module _ (region : Region) (side : Side) (c : Content) where
           ByBoth side i j r.0 theirs r.2 has follows key (ap (λ (v : Part). after v j) r.1 ∙ is)
       both_settled Applied ok r theirs has is =
           ByBoth side i j r.0 theirs r.2 has follows key (ap (λ (v : Part). after v j) r.1 ∙ is)
-      both_settled Closing ok r theirs has is = elim (cases_eq (c (slot_region region side).gate) 165) [
-        | inl mine ↦ ByBoth side i j mine theirs r.1 has follows key (ap (λ (v : Part). after v j) r.0
-            ∙ is)
-        | inr mine ↦ other_stands p j mine theirs has (redone_after region j c q r.2 ∙ is)
-      ]
+      both_settled Closing ok r theirs has is = elim (cases_eq (c (slot_region region side).gate)
+          165) [
+            | inl mine ↦ ByBoth side i j mine theirs r.1 has follows key
+                (ap (λ (v : Part). after v j) r.0
+                ∙ is)
+            | inr mine ↦ other_stands p j mine theirs has (redone_after region j c q r.2 ∙ is)
+          ]

@@ -82,11 +82,13 @@ module _ (x : Guest) (at : ℕ) (bytes : List ℕ) (c d : Content) (out : SameOu
 
     first_keeps : (between : Part) → Row area (side_of x) between x.slot c
         → write_in First x ≡ Some (at, bytes) → Keeps area (side_of x) (slot_write x.slot) c d
-    first_keeps between row next = keeps area (side_of x) (side_ok area x.side) (slot_write x.slot) at
+    first_keeps between row next = keeps area (side_of x) (side_ok area x.side) (slot_write x.slot)
+        at
         bytes c d (first_write_fits x at bytes between c row next) next out
 
     second_keeps : Behind x.paired area (side_behind x) x.behind c
-        → write_in Second x ≡ Some (at, bytes) → Keeps area (side_behind x) (slot_write x.behind) c d
+        → write_in Second x ≡ Some (at, bytes) → Keeps area (side_behind x) (slot_write x.behind) c
+        d
     second_keeps b next = keeps area (side_behind x) (side_ok area (other_side x.side))
         (slot_write x.behind) at bytes c d (second_write_fits x at bytes c b next) next out
 
@@ -126,7 +128,8 @@ module _ (x : Guest) (at : ℕ) (bytes : List ℕ) (c d : Content) (out : SameOu
             leads = leads_written s.between x.behind p s.leads;
             row = behind_keeps_first x.paired area x.side s.between c d x.slot x.behind b w keep
                 s.row;
-            seen = behind_keeps_first_seen x.paired area x.side s.between c d x.slot x.behind b w keep
+            seen = behind_keeps_first_seen x.paired area x.side s.between c d x.slot x.behind b w
+                keep
                 s.seen;
             behind = behind_goes_on x.paired area x.side s.between c d x.slot x.behind b w keep
                 s.behind;
@@ -213,7 +216,8 @@ module _ (region : Region) (side : Side) (p between : Part) (c : Content) where
         part = st.0;
         is = st.1;
         may =
-            subst (λ (v : Phase). BeforeOrAfter p (or_else (opening_if (is_opening v) f.intent.group)
+            subst (λ (v : Phase). BeforeOrAfter p (or_else
+            (opening_if (is_opening v) f.intent.group)
             (Some j.group)) st.0) (sym pb) st.2;
       }
   both f (Open k) j row b l ch pb =

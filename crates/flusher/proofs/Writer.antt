@@ -72,7 +72,8 @@ module _ (xs : List Guest) (g : ℕ) (none : Guest) (next : position guest_has_w
     pub its_fit : (len : ℕ) → AllFit len xs → GuestFits len g (get_or xs g none)
     its_fit len fits = fits.each g (get_or xs g none) in_place
 
-    module _ {D : Type 0} (makes : D → DiskCall → D → Type 0) (od nd : D) (ok : Bool) (moved : Guest)
+    module _ {D : Type 0} (makes : D → DiskCall → D → Type 0) (od nd : D) (ok : Bool)
+        (moved : Guest)
         (is : moved ≡ guest_after_write (get_or xs g none)) where
       written_by : (o : Option (ℕ × List ℕ)) → guest_write (get_or xs g none) ≡ o → IsShort o
           → MatchOption o ⊥ (λ w. makes od (Write w.0 w.1 ok) nd)

@@ -153,8 +153,8 @@ impl Memory {
         }
     }
 
-    /// Lends the `len` bytes from the address `at` on, without a copy; `None` where there is none of
-    /// them in one piece.
+    /// Lends the `len` bytes from the address `at` on, without a copy; `None` where there is none
+    /// of them in one piece.
     ///
     /// The search begins with the copy at the place `next`, which is then the one behind what was
     /// found: who looks for parts in the order in which they were told finds each at once.

@@ -13,7 +13,8 @@ module _ (b : BoardState OutboxState) (c : Call) (is : c ≡ next_call b.store.b
     unfolding is_awaited
     by_call = ap (λ (x : Call). is_sync x && is_none b.store.disk.outbox.writes) (sym is)
 
-    pub awaited_at_sync : (taken : Bool) → c ≡ call.Sync → taken ≡ is_none b.store.disk.outbox.writes
+    pub awaited_at_sync : (taken : Bool) → c ≡ call.Sync → taken ≡ is_none
+        b.store.disk.outbox.writes
         → taken ≡ is_awaited b
     awaited_at_sync taken here told = told
         ∙ sym (by_call ∙ ap (λ (x : Call). is_sync x && is_none b.store.disk.outbox.writes) here)

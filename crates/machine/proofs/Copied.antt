@@ -247,7 +247,8 @@ module _ (guest : ℕ) where
       copied_set guest r y z knows.device knows.device' knows.its
       (ap (λ (v : Boards). v.devices) knows.after)
       (learned y g knows.device h knows.device' r none knows.learns
-      (copied_of guest r y knows.device knows.its (runs_copied most q (standing r g l) x y runs has)))
+      (copied_of guest r y knows.device knows.its (runs_copied most q (standing r g l) x y runs
+      has)))
   runs_copied most s t a b (GivesUp q r g l x y runs) has = runs_copied most q
       (standing r g l) x y runs has
   runs_copied most s t a b (Calls q r l x y z runs notified) has =

@@ -1,5 +1,6 @@
 -- Of all that is to be copied out for the guests of a machine their devices have copies.
-use Rattle.std.proofs.Common.{◌≡◌, ◌≢◌, ◌∙◌, ℕ, zero, suc, List, [], ◌∷◌, Option, Some, None, IfSome}
+use Rattle.std.proofs.Common.{◌≡◌, ◌≢◌, ◌∙◌, ℕ, zero, suc, List, [], ◌∷◌, Option, Some, None}
+use Rattle.std.proofs.Common.{IfSome}
 use Rattle.std.proofs.Common.{map, replicate, refl, ap, sym, subst, ⊎_elim}
 use Rattle.flusher.proofs.Guests.{set_cases}
 use Rattle.mmio_transport.specs.Asking.{known}

@@ -87,7 +87,8 @@ then_stopped guest most s t u a b c first stopped = record {
   parts = stopped.parts;
   going = stopped.going;
   looked = stopped.looked;
-  runs = runs_twice guest most s t (standing stopped.parts stopped.going stopped.looked) a b stopped.before first
+  runs = runs_twice guest most s t (standing stopped.parts stopped.going stopped.looked) a b
+      stopped.before first
       stopped.runs;
   went_on = stopped.went_on;
   why = stopped.why;

@@ -1,10 +1,12 @@
 -- How many chains of a guest wait: a pop adds one at most, and no other step of a serve adds any.
-use Rattle.std.proofs.Common.{◌≡◌, ◌≤◌, ◌<◌, inl, inr, refl, ap, subst, ◌∙◌, ℕ, ◌+◌, Bool, true, false}
+use Rattle.std.proofs.Common.{◌≡◌, ◌≤◌, ◌<◌, inl, inr, refl, ap, subst, ◌∙◌, ℕ, ◌+◌, Bool, true}
+use Rattle.std.proofs.Common.{false}
 use Rattle.std.proofs.Common.{Option, Some, None, List, [], ◌∷◌, drop, length, arith, length-append}
 use Rattle.std.specs.Prelude.{option_map, if◌then◌else◌, ◌==◌, is_some, nat_lt}
 use Rattle.board.proofs.Common.{nat_tests}
 use Rattle.machine.proofs.Common.{slice_get, Answer, BoardState, Boards, CollectsInto}
-use Rattle.machine.proofs.Common.{DeviceState, Done, HandsReply, Job, Makes, OutboxMakes, OutboxState}
+use Rattle.machine.proofs.Common.{DeviceState, Done, HandsReply, Job, Makes, OutboxMakes}
+use Rattle.machine.proofs.Common.{OutboxState}
 use Rattle.machine.proofs.Common.{PopsInto, SubmitsFrom, Tally, board_of, get_set_same, in_place}
 use Rattle.machine.proofs.Common.{outbox_state, put, Calls, GivesUp, Hands, IsShare, LearnsOf, Pops}
 use Rattle.machine.proofs.Common.{Runs, Stand, Step, Still, Then, Voids, standing}

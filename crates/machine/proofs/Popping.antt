@@ -5,7 +5,8 @@ use Rattle.std.proofs.Common.{get_or}
 use Rattle.std.proofs.Common.{arith, IfSome, refl, if◌then◌else◌}
 use Rattle.machine.proofs.Common.{slice_get, slice_set, Answer, AskingState, BoardState, Boards}
 use Rattle.machine.proofs.Common.{DeviceState, HasNoJob, IsSound, Job, Makes, OutboxState}
-use Rattle.machine.proofs.Common.{Pops, PopsInto, PopsOne, Range, Runs, Still, board_of, get_set_same}
+use Rattle.machine.proofs.Common.{Pops, PopsInto, PopsOne, Range, Runs, Still, board_of}
+use Rattle.machine.proofs.Common.{get_set_same}
 use Rattle.machine.proofs.Common.{in_place, outbox_state, put, GivesUp, Stand, standing}
 use Rattle.board.proofs.AskingSteps.{device_in}
 use Rattle.board.proofs.Common.{option_map, slice_get-get_or, slice_get-map, length-map}

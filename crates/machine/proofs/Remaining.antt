@@ -6,8 +6,10 @@ use Rattle.std.proofs.lemmas.List.{length-take}
 use Rattle.std.specs.Prelude.{option_map, if◌then◌else◌, ◌==◌, ◌&&◌, is_some, take}
 use Rattle.board.proofs.Common.{length-map, nat_tests}
 use Rattle.machine.proofs.Common.{slice_get, slice_set, AdvancesUnder, Answer, BoardState, Boards}
-use Rattle.machine.proofs.Common.{Calls, CollectsInto, DeviceState, Done, Fault, GivesUp, GivesWhere}
-use Rattle.machine.proofs.Common.{Hands, HandsOne, PopsOne, Range, Intent, IsShare, Job, LearnsOf, Makes, Marks}
+use Rattle.machine.proofs.Common.{Calls, CollectsInto, DeviceState, Done, Fault, GivesUp}
+use Rattle.machine.proofs.Common.{GivesWhere}
+use Rattle.machine.proofs.Common.{Hands, HandsOne, PopsOne, Range, Intent, IsShare, Job, LearnsOf}
+use Rattle.machine.proofs.Common.{Makes, Marks}
 use Rattle.machine.proofs.Common.{OutboxMakes, OutboxState, Pops, PopsInto, Report, Runs, SettlesBy}
 use Rattle.machine.proofs.Common.{Stand, Step, Still, SubmitsFrom, TakesInto, Tally, Then, Voids}
 use Rattle.machine.proofs.Common.{board_of, get_set_same, in_place, outbox_state, put, standing}

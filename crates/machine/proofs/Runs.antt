@@ -69,7 +69,8 @@ module _ (guest most : ℕ) where
   then_does s t u a b c first (ByStep r v w x y z d o answer before share makes some after) =
       ByStep s v u a y z c o answer (runs_twice s t v a b y first before) share makes some after
   then_does s t u a b c first (ByPop r w qs l m x y z d answer before pops some after) =
-      ByPop s u qs l m a y z c answer (runs_twice s t (standing [] true l) a b y first before) pops some
+      ByPop s u qs l m a y z c answer (runs_twice s t (standing [] true l) a b y first before) pops
+      some
       after
   then_does s t u a b c first (ByReply r w qs l x y z d before hands after) =
       ByReply s u qs l a y z c (runs_twice s t (standing [] true l) a b y first before) hands after

@@ -109,7 +109,11 @@ queue_back guests guest s r (Some q) small =
 pub device_back : (guests guest : ℕ) (s : Setup) (it : RestingDevice) → IsSmall it.queue
     → device_in (words_of guests guest s it) ≡ it
 device_back guests guest s it small =
-    ap (λ r. (let x : RestingDevice = record { registers = r; queue = queue_in (words_of guests guest s it) } in x))
+    ap (λ r. (let x : RestingDevice = record {
+      registers = r;
+      queue = queue_in
+          (words_of guests guest s it);
+    } in x))
     (registers_back guests guest s it)
     ∙ ap (λ o. (let x : RestingDevice = record { registers = it.registers; queue = o } in x))
     (queue_back guests guest s it.registers it.queue small)

@@ -223,7 +223,8 @@ pub record Went (guest most : ℕ) (s : Stand) (a : Boards) (turn turn' : TurnSt
   pub asked : turn'.asked ≡ turn.asked
 
 -- What the monitor is asked for, with these bytes in what it lent: as what is needed, of which it
--- is noted that it was asked for; at most 16,384 bytes are read, and those to be written stand first.
+-- is noted that it was asked for; at most 16,384 bytes are read, and those to be written stand
+-- first.
 abbrev pub NeedsTold : (guest most : ℕ) → Stand → Boards → TurnState → List ℕ → Boards → Next
     → Type 0
 NeedsTold guest most s a turn bytes new next.Again = Unit {0}

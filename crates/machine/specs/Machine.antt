@@ -181,9 +181,9 @@ NeedsOf guest most room what.Call s bytes left heard old new = Unit {0}
 NeedsOf guest most room what.Again s bytes left heard old new =
     IsBusy guest most left heard (stand_of (turn_of new guest)) new.board
 
--- Where the guest's steps stand behind a serve that tells this: a part that is to be written isn't in
--- its memory yet, and comes before all that is left; and its driver is notified where that is told,
--- and not else.
+-- Where the guest's steps stand behind a serve that tells this: a part that is to be written isn't
+-- in its memory yet, and comes before all that is left; and its driver is notified where that is
+-- told, and not else.
 abbrev pub left_of : What → (at len : ℕ) → TurnState → Stand
 left_of what.Rest at len turn = stand_of turn
 left_of what.Read at len turn = stand_of turn

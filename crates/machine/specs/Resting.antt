@@ -27,8 +27,8 @@ is_over asked.Write = false
 abbrev pub is_written : TurnState → Bool
 is_written turn = is_over turn.asked && length turn.parts == 0
 
--- The guest is at rest: no chain of it is outstanding, its driver was told of all that was used, and
--- all of that is in its memory.
+-- The guest is at rest: no chain of it is outstanding, its driver was told of all that was used,
+-- and all of that is in its memory.
 abbrev pub rests : TurnState → AskingState → Bool
 rests turn a = is_written turn && is_at_rest a.device.queue a.told
 
@@ -64,7 +64,8 @@ abbrev pub is_its : MachineState → ℕ → List ℕ → Bool
 is_its m guest words =
     is_its_by (slice_get m.setups guest) (length m.setups % 65536) guest words
 
--- The guest's device goes on as this one; nothing else has changed, and no serve of it is under way.
+-- The guest's device goes on as this one; nothing else has changed, and no serve of it is under
+-- way.
 abbrev pub goes_on : MachineState → ℕ → AskingState → RestingDevice → MachineState
 goes_on m guest a it = with_device m guest (going_on a it) fresh_turn
 
@@ -101,8 +102,8 @@ pub record LoadsOf (guest : ℕ) (words : List ℕ) (old new : MachineState) : T
   pub of_guest : is_its old guest words ≡ true
   pub goes : GoesOnAs guest (device_in words) old new
 
--- Why none does, the first of these that is so: there is no such guest; the words are no whole state
--- of this version, or another guest's; or no queue can stand where they say.
+-- Why none does, the first of these that is so: there is no such guest; the words are no whole
+-- state of this version, or another guest's; or no queue can stand where they say.
 pub data HasLoadingFault (m : MachineState) (guest : ℕ) (words : List ℕ) (f : MachineFault)
     : Type 0 where
   LacksGuest : f ≡ fault.NoGuest → has_guest m guest ≡ false → HasLoadingFault m guest words f
@@ -140,7 +141,8 @@ pub record MovesTo (guest place : ℕ) (old new : MachineState) : Type 0 where
   pub ready : it.queue ≡ Some queue
   pub moved : RestingQueue
   pub place_is : at_place queue.kind queue place ≡ Some moved
-  pub goes : GoesOnAs guest (record { registers = notified it.registers; queue = Some moved }) old new
+  pub goes : GoesOnAs guest (record { registers = notified it.registers; queue = Some moved }) old
+      new
 
 -- Why it doesn't: it has no place now, or not this one.
 pub data StaysThere (m : MachineState) (guest place : ℕ) : Type 0 where

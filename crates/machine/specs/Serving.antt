@@ -166,8 +166,8 @@ pub record WritesAll (device : AskingState) (answer : Answer) (parts : List Rang
 abbrev pub MayTake : (guest most : ℕ) → Boards → Type 0
 MayTake guest most b = nat_lt (waiting guest b.rest) most ≡ true
 
--- A pop of this device writes nothing that its guest's memory hasn't: avail_event is there, or there
--- is none; or it isn't live, and writes nothing.
+-- A pop of this device writes nothing that its guest's memory hasn't: avail_event is there, or
+-- there is none; or it isn't live, and writes nothing.
 pub data WritesNone (looked : Bool) (device : AskingState) : Type 0 where
   Stands : looked ≡ true → WritesNone looked device
   NoEvent : pop_parts device.device ≡ [] → WritesNone looked device
@@ -211,11 +211,11 @@ abbrev pub owing : List Range → Bool → Stand
 owing parts looked = record { parts = parts; going = false; looked = looked; owed = true }
 
 -- The guest's steps, one after another, from one board to the other, with what is to be copied out
--- into guest memory before and behind them. A step of its device is made only once it was begun, and
--- begins only where nothing is left to be copied out: so what it reads was told behind all that the
--- steps before it wrote, and it believes nothing that was told for one of them. It pops only while
--- fewer of its chains wait for their answers than may. No part is left out: one goes only where the
--- monitor is told of it, behind these steps, or where the device waits for a reset.
+-- into guest memory before and behind them. A step of its device is made only once it was begun,
+-- and begins only where nothing is left to be copied out: so what it reads was told behind all that
+-- the steps before it wrote, and it believes nothing that was told for one of them. It pops only
+-- while fewer of its chains wait for their answers than may. No part is left out: one goes only
+-- where the monitor is told of it, behind these steps, or where the device waits for a reset.
 pub data Runs (guest most : ℕ) : Stand → Boards → Stand → Boards → Type 0 where
   Still : (s : Stand) (b : Boards) → Runs guest most s b s b
   Then : (s t : Stand) (a b c : Boards) (x : Step) (answer : Answer)

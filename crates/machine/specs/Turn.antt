@@ -36,10 +36,10 @@ fresh_turn = record {
   parts = [];
 }
 
--- Where a guest's steps stand: what isn't in its memory yet; whether a step of its device was begun,
--- so that all of which it has a copy was told for that step; whether avail_event as its device wrote
--- it last is in its memory, or among those parts; and whether its driver is to be notified, which
--- the monitor wasn't told.
+-- Where a guest's steps stand: what isn't in its memory yet; whether a step of its device was
+-- begun, so that all of which it has a copy was told for that step; whether avail_event as its
+-- device wrote it last is in its memory, or among those parts; and whether its driver is to be
+-- notified, which the monitor wasn't told.
 pub record Stand : Type 0 where
   pub parts : List Range
   pub going : Bool

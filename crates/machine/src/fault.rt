@@ -24,8 +24,8 @@ pub enum MachineFault {
     /// The driver broke the rules of its queue: its device waits for a reset.
     #[error("Stopped")]
     Stopped,
-    /// The guest has 64 replies that wait: they leave first. A serve takes no chain then, so that it
-    /// doesn't come about.
+    /// The guest has 64 replies that wait: they leave first. A serve takes no chain then, so that
+    /// it doesn't come about.
     #[error("Busy")]
     Busy,
     /// The book takes no more jobs: 16,384 stand of which the first hasn't left, or 2^64 - 1 were
@@ -50,8 +50,8 @@ pub enum MachineFault {
     /// A success was told where no sync is awaited, or where writes still wait.
     #[error("NotAwaited")]
     NotAwaited,
-    /// A chain of the guest waits for its answer, or something is still to be written to its memory,
-    /// or to be told to its driver: it is to be served on.
+    /// A chain of the guest waits for its answer, or something is still to be written to its
+    /// memory, or to be told to its driver: it is to be served on.
     #[error("NotAtRest")]
     NotAtRest,
     /// The words are no whole state of a device, of this version; or no queue can stand where they

@@ -101,7 +101,8 @@ pub fn image_length(alloc: Global, setups: &[Setup]) -> Result<u64, MachineFault
 }
 
 /// Makes a fresh image of version 2 of these guests, of all of `image`: each partition is empty,
-/// without a key. `BadBoard`, `BadLength` where it hasn't just the image's length, or `NoMemory`; then it stays.
+/// without a key. `BadBoard`, `BadLength` where it hasn't just the image's length, or `NoMemory`;
+/// then it stays.
 pub fn format_image(alloc: Global, setups: &[Setup], image: &mut [u8]) -> Result<(), MachineFault>
     ensures fresh { OnOk result (IsFresh setups.now image.new) }
     ensures monitored { OnOk result (IsMonitored setups.now) }
@@ -208,10 +209,10 @@ impl Machine {
     /// Opens the image of these guests, which the monitor synced and then read whole. The bytes
     /// are copied, and freed once it is open.
     ///
-    /// `BadBoard` where the guests are none or more than 64, or one is out of its range; `BadLength`
-    /// where there are more or fewer bytes than their image has; by the header `NotFormatted` where
-    /// they are no image, and `OtherConfig` where they are another board's; `NotFormatted` where a
-    /// partition isn't well formed; and `NoMemory`.
+    /// `BadBoard` where the guests are none or more than 64, or one is out of its range;
+    /// `BadLength` where there are more or fewer bytes than their image has; by the header
+    /// `NotFormatted` where they are no image, and `OtherConfig` where they are another board's;
+    /// `NotFormatted` where a partition isn't well formed; and `NoMemory`.
     pub fn open(alloc: Global, setups: &[Setup], image: &[u8]) -> Result<Machine, MachineFault>
         ensures opened { IfOk result (λ m. IsOpened setups.now image.now m) }
         ensures bad { result ≡ Err MachineFault.BadBoard → ¬ IsMonitored setups.now }

@@ -11,7 +11,8 @@ const DRIVER_OK: u32 = 4;
 /// DEVICE_NEEDS_RESET in Status (VIRTIO 1.2, 2.1).
 const NEEDS_RESET: u32 = 64;
 
-/// Whether the guest's driver has set DRIVER_OK: before, a pop looks at nothing, and writes nothing.
+/// Whether the guest's driver has set DRIVER_OK: before, a pop looks at nothing, and writes
+/// nothing.
 pub(crate) fn is_live(board: &AskingBoard<OutboxDisk>, guest: u16) -> bool
     ensures { IfSome (slice_get board.now.devices guest)
         (λ d. d.device.registers.status.driver_ok ≡ result) }

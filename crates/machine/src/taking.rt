@@ -101,7 +101,8 @@ fn begin_pop(board: &mut AskingBoard<OutboxDisk>, guest: u16, turn: &mut Turn)
 /// No chain is available. What the pop wrote, where it did, is copied out once, and then it is
 /// looked anew: the driver may have offered one before it could see that.
 fn found_none(turn: &mut Turn, is_live: bool) -> Taken
-    ensures nothing { result ≢ Taken.Did → turn.new ≡ record turn.old { going = false; parts = [] } }
+    ensures nothing { result ≢ Taken.Did
+        → turn.new ≡ record turn.old { going = false; parts = [] } }
     ensures why { result ≢ Taken.Did
         → (is_live ≡ false) ⊎ ((turn.old.looked ≡ true) ⊎ (turn.old.parts ≡ [])) }
     ensures did { result ≡ Taken.Did

@@ -1,5 +1,6 @@
 -- What a device that has all of its memory asks for: nothing.
-use Rattle.std.proofs.Common.{ℕ, ◌+◌, ◌-◌, ◌≤◌, ◌<◌, min, List, [], ◌∷◌, length, Option, None, Some, arith}
+use Rattle.std.proofs.Common.{ℕ, ◌+◌, ◌-◌, ◌≤◌, ◌<◌, min, List, [], ◌∷◌, length, Option, None}
+use Rattle.std.proofs.Common.{Some, arith}
 use Rattle.std.proofs.lemmas.Nat.{mod_below}
 use Rattle.std.proofs.lemmas.List.Elements.{All-head, All-tail}
 use Rattle.guest_memory.specs.Memory.{Known, IsWhole}
@@ -16,7 +17,8 @@ use Rattle.mmio_transport.specs.Publishing.{IsDueIn}
 use Rattle.mmio_transport.specs.Asking.{AskingState, known, HasRoomIn}
 
 -- ranges that lie in a whole memory are there
-ranges_held : (m : Known) (ranges : List Range) (count : ℕ) → IsWhole m → AreInside (length m.bytes) ranges
+ranges_held : (m : Known) (ranges : List Range) (count : ℕ) → IsWhole m → AreInside
+    (length m.bytes) ranges
     → AreHeld m ranges count
 ranges_held m [] count whole inside = tt
 ranges_held m (r ∷ rs) count whole inside =

@@ -14,7 +14,8 @@ use Rattle.mmio_transport.specs.declared.fault.DeviceFault.{DeviceFault}
 use Rattle.mmio_transport.specs.declared.fault.DeviceFault.TheVariants as device_fault
 use Rattle.mmio_transport.specs.declared.done.Published.{Published}
 use Rattle.mmio_transport.specs.declared.done.Published.TheVariants.{Wrote, Dropped}
-use Rattle.mmio_transport.specs.Queue.{QueueState, Needs, OfArea, event_held, seen, used_held, Tells}
+use Rattle.mmio_transport.specs.Queue.{QueueState, Needs, OfArea, event_held, seen, used_held}
+use Rattle.mmio_transport.specs.Queue.{Tells}
 use Rattle.mmio_transport.specs.Queue.{TellsFrom}
 use Rattle.mmio_transport.specs.Job.{Job, Done}
 use Rattle.mmio_transport.specs.Device.{DeviceState, after_write, first_state, is_ready}

@@ -75,8 +75,8 @@ going_on a s = record a {
 }
 
 -- The place at which a queue stands, in 16 bits: of a split queue the index of its next chain
--- (2.7.6); of a packed one in the bits 0 to 14 the place, and bit 15 is the wrap counter, which is 1
--- at first (2.8.1).
+-- (2.7.6); of a packed one in the bits 0 to 14 the place, and bit 15 is the wrap counter, which is
+-- 1 at first (2.8.1).
 abbrev pub place_by : RingKind → (size used : ℕ) → ℕ
 place_by Split size used = used % 65536
 place_by Packed size used =

@@ -1,8 +1,10 @@
 //! What a device that asks pops and publishes.
-ghost use Rattle.std.specs.Prelude.{◌≡◌, ◌≤◌, ◌↔◌, IsTrue, length, [], None, Some, Ok, Err, IfSome, false};
+ghost use Rattle.std.specs.Prelude.{◌≡◌, ◌≤◌, ◌↔◌, IsTrue, length, [], None, Some, Ok, Err};
+ghost use Rattle.std.specs.Prelude.{IfSome, false};
 ghost use Rattle.guest_memory.specs.Memory.{IsAsk};
 ghost use Rattle.guest_memory.specs.declared.ask.Ask.{Ask};
-ghost use Rattle.mmio_transport.specs.Asking.{known, GivesOrAsks, HasRoomIn, Notifies, PublishesAsked};
+ghost use Rattle.mmio_transport.specs.Asking.{known, GivesOrAsks, HasRoomIn, Notifies};
+ghost use Rattle.mmio_transport.specs.Asking.{PublishesAsked};
 ghost use Rattle.mmio_transport.specs.Asking.{ReplyNeeds, SeesFor};
 ghost use Rattle.mmio_transport.specs.Job.{Job, room_in};
 ghost use Rattle.mmio_transport.specs.Popping.{is_stopped};
@@ -33,9 +35,9 @@ impl AskingDevice {
     ///
     /// A fault of the chain sets DEVICE_NEEDS_RESET; from then on each pop answers `NeedsReset` and
     /// changes nothing, until a reset. Where the count of sessions, readiness or pops stands at its
-    /// end it does so for good. `NoMemory` comes only where a buffer is reached before any fault, or
-    /// the chain passes all tests, and changes nothing. By the ring's contract one pop counts each
-    /// descriptor that it reads, up to the first that fails a test: at most the queue size and
+    /// end it does so for good. `NoMemory` comes only where a buffer is reached before any fault,
+    /// or the chain passes all tests, and changes nothing. By the ring's contract one pop counts
+    /// each descriptor that it reads, up to the first that fails a test: at most the queue size and
     /// 1,024.
     pub fn pop(&mut self) -> Result<Option<Job>, PopFault>
         ensures gives { GivesOrAsks self.old result self.new }

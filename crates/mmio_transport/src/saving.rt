@@ -1,5 +1,6 @@
 //! A device that is saved at rest, and goes on in another one.
-ghost use Rattle.std.specs.Prelude.{◌≡◌, ◌<◌, ◌≤◌, ◌↔◌, IsTrue, IfSome, true, false, length, is_some};
+ghost use Rattle.std.specs.Prelude.{◌≡◌, ◌<◌, ◌≤◌, ◌↔◌, IsTrue, IfSome, true, false, length};
+ghost use Rattle.std.specs.Prelude.{is_some};
 ghost use Rattle.mmio_transport.specs.Resting.{queue_at, is_at_rest, IsSaved, MayGoOn, MayStand};
 ghost use Rattle.mmio_transport.specs.Resting.{going_on, place_of, at_place};
 ghost use Rattle.mmio_transport.specs.Device.{counted};

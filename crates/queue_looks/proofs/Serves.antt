@@ -218,7 +218,8 @@ module _ {D : Type 0} (shows : D → DiskState) (g : ℕ) (b b' : BoardState D) 
             grind (
               arith,
               (calm.quiet k v
-                  (other_guest b.book (submit_of b.book s.job) n (submitted (is_broken b) s.job) (λ m u.
+                  (other_guest b.book (submit_of b.book s.job) n (submitted (is_broken b) s.job)
+                  (λ m u.
                   refl) k other v (ap (λ q. slice_get q.guests k) (sym (submit_rolls b.book s.job))
                   ∙ at))),
               broken_is,

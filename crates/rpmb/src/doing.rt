@@ -268,8 +268,8 @@ fn keys_by<'a>(rt: &HostRuntime, many: usize, digits: &'a str) -> Result<Vec<&'a
     Ok(keys)
 }
 
-/// Performs an operation on the image of a board. The file of its key is read once, before a request
-/// is made: by what it held the answer is judged, too, also where it was a pipe.
+/// Performs an operation on the image of a board. The file of its key is read once, before a
+/// request is made: by what it held the answer is judged, too, also where it was a pipe.
 fn operate_on<'a, W: Write>(
     rt: &HostRuntime,
     place: &Place<'_>,

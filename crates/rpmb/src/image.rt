@@ -62,8 +62,8 @@ fn tell_no_guest(rt: &HostRuntime, file: &str, guest: &str, count: usize) {
 }
 
 impl<'a> Place<'a> {
-    /// Reads a board file. Refused where it can't be read, is no board, names no image, or lacks the
-    /// guest.
+    /// Reads a board file. Refused where it can't be read, is no board, names no image, or lacks
+    /// the guest.
     pub fn of(rt: &HostRuntime, file: &'a str, guest: &'a str) -> Result<Place<'a>, Stop> {
         let (setup, image) = match read_image_board(rt, file) {
             Ok(read) => read,
@@ -128,7 +128,8 @@ impl<'a> Place<'a> {
         }
     }
 
-    /// Tells how many blocks a request may have, where a reply of lines may be of one that had more.
+    /// Tells how many blocks a request may have, where a reply of lines may be of one that had
+    /// more.
     fn tell_limits(&self, rt: &HostRuntime, lines: &[u8]) {
         let (file, number) = (self.file, self.guest);
         let Some(guest) = self.config() else {

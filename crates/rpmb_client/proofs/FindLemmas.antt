@@ -1,5 +1,6 @@
 -- What is found in a list: the key of a guest, and the replies of lines.
-use Rattle.std.proofs.Common.{◌≡◌, ◌∙◌, ◌<◌, ◌+◌, ℕ, true, false, List, Option, Some, None, [], arith}
+use Rattle.std.proofs.Common.{◌≡◌, ◌∙◌, ◌<◌, ◌+◌, ℕ, true, false, List, Option, Some, None, []}
+use Rattle.std.proofs.Common.{arith}
 use Rattle.std.proofs.Common.{if◌then◌else◌, ◌∷◌, ◌++◌, length, drop, get_or, nat_eq, refl, ap, sym}
 use Rattle.std.proofs.Common.{Bool, is_some, length-append, min, option_map}
 use Rattle.std.proofs.lemmas.List.{append-nil, drop_more}

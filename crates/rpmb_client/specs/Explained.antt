@@ -99,7 +99,8 @@ has_refusal frame = not (result_of frame == res_ok)
 unfoldable pub is_refused : List ℕ → Bool
 is_refused reply = is_whole reply && list_any has_refusal (frames_of reply)
 
--- of zeros it is said that they are: no device makes such a MAC, and one whose disk failed makes none
+-- of zeros it is said that they are: no device makes such a MAC, and one whose disk failed makes
+-- none
 abbrev pub judged_mac : List ℕ → List (List ℕ) → List ℕ
 judged_mac key frames = first_row (
     (is_mac_right key frames, codes "right")
@@ -130,8 +131,8 @@ abbrev pub stuff_text : Bool → List ℕ
 stuff_text stuff = if stuff then codes ", stuff not zeros" else []
 
 -- a frame at a place of n, counted from 1, of a reply to a guest; in a line, or in an object (RFC
--- 8259): all that stands there between two quotes is printable ASCII without a quote or a backslash,
--- and so stands there as it is (7)
+-- 8259): all that stands there between two quotes is printable ASCII without a quote or a
+-- backslash, and so stands there as it is (7)
 unfoldable pub place_told : Bool → ℕ → ℕ → ℕ → List ℕ
 place_told as_json guest place n =
     if as_json

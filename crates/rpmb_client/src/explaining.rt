@@ -112,8 +112,8 @@ fn write_fields<W: Write>(
     Ok(())
 }
 
-/// Writes what is judged of a frame, its block in digits behind what stands before them, and whether
-/// its stuff bytes aren't zeros.
+/// Writes what is judged of a frame, its block in digits behind what stands before them, and
+/// whether its stuff bytes aren't zeros.
 #[tactic(auto, unfolding(crate::specs::Explained::checks_told))]
 fn write_checks<W: Write>(
     nonce: &str,
@@ -130,7 +130,8 @@ fn write_checks<W: Write>(
     if as_json {
         write!(
             out,
-            ",\"nonce\":\"{nonce}\",\"mac\":\"{mac}\",\"data\":\"{digits}\",\"has_stuff\":{has_stuff}"
+            ",\"nonce\":\"{nonce}\",\"mac\":\"{mac}\",\"data\":\"{digits}\",\
+             \"has_stuff\":{has_stuff}"
         )?;
         return Ok(());
     }

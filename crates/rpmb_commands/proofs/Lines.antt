@@ -107,9 +107,11 @@ pub said_more : (by : Judging) (given left after start now next : Option (List �
     → nat_lt 0 refused' ≡ (nat_lt 0 refused || has_refused (without_feed line))
     → has_answer' ≡ (is_answer (without_feed line) || has_answer)
     → SoFar by given after start next wrong' refused' has_answer'
-said_more by None left after start now next wrong refused wrong' refused' has_answer has_answer' line so
+said_more by None left after start now next wrong refused wrong' refused' has_answer has_answer'
+    line so
     more told w r l = tt
-said_more by (Some text) left after start now next wrong refused wrong' refused' has_answer has_answer'
+said_more by (Some text) left after start now next wrong refused wrong' refused' has_answer
+    has_answer'
     line so more told w r l =
     let rest = so.0 in
     let said = so.2 in

@@ -3,8 +3,8 @@ use Rattle.std.specs.Prelude.{◌≡◌, ◌==◌, if◌then◌else◌, ℕ, Lis
 use Rattle.intent_slots.specs.Header.{HasCapacities, HasMagic}
 use Rattle.intent_slots.specs.Layout.{image_length}
 
--- a file of this length begins with these bytes as an image of these capacities does; its version is
--- 2 where the byte behind the header's first sector says so, else 1
+-- a file of this length begins with these bytes as an image of these capacities does; its version
+-- is 2 where the byte behind the header's first sector says so, else 1
 pub record IsImageOf (capacities front : List ℕ) (len version : ℕ) : Type 0 where
   pub magic : HasMagic (λ k. slice_index front k)
   pub board : HasCapacities capacities (λ k. slice_index front k)

@@ -80,7 +80,8 @@ torn_mark line =
 abbrev pub mark_of : List ℕ → List ℕ
 mark_of line =
     if is_torn line then torn_mark line
-    else (if is_of_script line then codes " (of a script: expected what `rpmbd run` prints)" else [])
+    else (if is_of_script line then codes " (of a script: expected what `rpmbd run` prints)" else
+    [])
 
 -- a line that gives no reply, as it is or in an object; a reply, in lines or in objects
 abbrev pub other_told : Bool → List ℕ → List ℕ

@@ -69,8 +69,8 @@ pub record GivesData (gives : List ℕ → List ℕ → Type 0) (words : Words) 
 abbrev pub replies_in : Option (List ℕ) → List ℕ → List Used
 replies_in asked text = replies_of asked (lines_of text)
 
--- the lines aren't read, or have no answer: then it is told how many replies there are, and how many
--- of these with the nonce
+-- the lines aren't read, or have no answer: then it is told how many replies there are, and how
+-- many of these with the nonce
 pub data WhyNoAnswer (nonce text : List ℕ) (r : Refusal) : Type 0 where
   answer_unread : IsOfReading r → WhyNoAnswer nonce text r
   answer_none : answer_in nonce text ≡ None

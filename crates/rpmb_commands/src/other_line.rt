@@ -20,7 +20,8 @@ pub(crate) fn begins_so(line: &str) -> bool
     line.starts_with("used")
 }
 
-/// Whether a word is the one that those begin with, by itself, or behind a byte order mark or a tab.
+/// Whether a word is the one that those begin with, by itself, or behind a byte order mark or a
+/// tab.
 fn is_used(word: &str) -> bool
     ensures { result ≡ is_used word.now }
 {

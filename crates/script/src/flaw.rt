@@ -1,4 +1,5 @@
-//! Why a line isn't read, in words. No contract speaks of them: whether a line is read, `line` says.
+//! Why a line isn't read, in words. No contract speaks of them: whether a line is read, `line`
+//! says.
 
 ghost use Rattle.std.specs.Prelude.{◌≡◌};
 ghost use Rattle.script.specs.Refusal.{IfBadLine};
@@ -222,8 +223,8 @@ pub(crate) fn told(alloc: Global, line: &str, flaw: String) -> LineError {
     }
 }
 
-/// Whether a line of a script that is refused, counted from 1, may have been cut: it is the last one,
-/// without a line feed, and has fewer words than its command wants.
+/// Whether a line of a script that is refused, counted from 1, may have been cut: it is the last
+/// one, without a line feed, and has fewer words than its command wants.
 fn may_be_cut(script: &str, line: usize) -> bool {
     let last = script.split('\n').last().unwrap_or("");
     let mut words = last.split(' ');

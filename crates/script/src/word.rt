@@ -25,8 +25,8 @@ pub fn read_number(word: &str) -> Option<u64>
     word.parse::<u64>().ok()
 }
 
-/// The bytes that a word writes in hex digits of either case, or as `-` where there are none; or why
-/// it writes none.
+/// The bytes that a word writes in hex digits of either case, or as `-` where there are none; or
+/// why it writes none.
 pub(crate) fn decoded(alloc: Global, word: &str) -> Result<Vec<u8>, FromHexError>
     ensures ok { IfOk result (λ bytes. bytes_of word.now ≡ Some bytes.items) }
     ensures bad { IfErr result (λ why. why ≢ FromHexError.OutOfMemory

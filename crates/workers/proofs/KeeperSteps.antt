@@ -11,7 +11,8 @@ use Rattle.rpmb_book.specs.Book.{take_answer}
 use Rattle.rpmb_book.specs.Guest.{intent_sequence}
 use Rattle.rpmb_book.specs.declared.refused.Refused.TheVariants.{Foreign}
 use Rattle.board.specs.State.{KeeperState, Report, in_place, over, put}
-use Rattle.board.specs.Steps.{AdvancesUnder, Answer, GivesWhere, TakesInto, did_answer, given_answer}
+use Rattle.board.specs.Steps.{AdvancesUnder, Answer, GivesWhere, TakesInto, did_answer}
+use Rattle.board.specs.Steps.{given_answer}
 use Rattle.board.specs.declared.step.Seen.TheVariants.{Did}
 use Rattle.workers.specs.Following.{Follow, Follows}
 use Rattle.workers.specs.Keeping.{GivesNext, GivesTaken, Keeps, KeyedStore}

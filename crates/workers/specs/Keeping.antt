@@ -163,7 +163,8 @@ pub record GivesNext {D : Type 0} (guest : ℕ) (old new : KeeperState D) : Type
 abbrev pub KeepsOn : {D : Type 0} → (D → DiskState) → (D → DiskCall → D → Type 0)
     → Flusher D → Flusher D → Type 0
 KeepsOn shows makes old new =
-    (first : KeyedStore _) → Keeps shows makes first (keyed old) → Keeps shows makes first (keyed new)
+    (first : KeyedStore _) → Keeps shows makes first (keyed old) → Keeps shows makes first
+    (keyed new)
 
 -- a flag that said whether the store had broken says so still
 abbrev pub IsHeard : {D : Type 0} → Flusher D → Flusher D → Type 0

@@ -17,8 +17,8 @@ pub record AreNew {D : Type 0} (parts : Parts D) : Type 0 where
   pub tallies : All (λ t. t.count ≡ 0) parts.tallies.items
   pub follows : Follow parts.shares parts.store.guests
 
--- The threads that came to their end are a worker for each guest of these numbers, one after another,
--- and a driver for each script, of the configuration in its place.
+-- The threads that came to their end are a worker for each guest of these numbers, one after
+-- another, and a driver for each script, of the configuration in its place.
 pub record AreJoined {L D : Type 0} {disk : Ghosts D} (numbers : List ℕ)
     (configs : List DriverConfig) (scripts : List (List Order)) (crew : Crew L D disk)
     : Type 0 where

@@ -1,6 +1,7 @@
 //! The flusher: it takes what the book accepted, gives it to the store, and tells the book what is
 //! settled.
-ghost use Rattle.std.specs.Prelude.{◌≡◌, ◌<◌, IsTrue, None, Ok, OnOk, false, length, slice_get, true};
+ghost use Rattle.std.specs.Prelude.{◌≡◌, ◌<◌, IsTrue, None, Ok, OnOk, false, length, slice_get};
+ghost use Rattle.std.specs.Prelude.{true};
 ghost use Rattle.flusher.specs.Store.{MayGive};
 ghost use Rattle.workers.specs.Following.{Follows, IsAtRest};
 ghost use Rattle.workers.specs.Keeping.{GivesNext, GivesTaken, LeftBy, LetsKey};
@@ -49,7 +50,8 @@ impl<D: Disk> Flusher<D> {
     fn takes(&self, guest: u16, intent: &Intent) -> bool
         ensures own { IsTrue result → intent.now.guest ≡ guest }
         ensures may { IsTrue result → MayGive self.now.keeper.store.guests intent.now }
-        ensures lets { IsTrue result → LetsKey (slice_get self.now.keys.items guest) intent.now.group.key }
+        ensures lets { IsTrue result
+            → LetsKey (slice_get self.now.keys.items guest) intent.now.group.key }
         ensures within { IsTrue result → guest < length self.now.keys.items }
     {
         intent.guest() == guest

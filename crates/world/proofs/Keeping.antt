@@ -30,7 +30,8 @@ pub fresh_more : (n : ℕ) (logs logs' : List GuestLog) (log : GuestLog) → Are
 fresh_more n logs logs' log are accepted published popped is =
     subst (AreFresh (n + 1)) (sym is) (record {
       many = (let more = one_longer logs log in omega arith);
-      each = at_push (λ l. (l.accepted ≡ []) × (l.published ≡ []) × (l.popped ≡ [])) logs log are.each
+      each = at_push (λ l. (l.accepted ≡ []) × (l.published ≡ []) × (l.popped ≡ [])) logs log
+          are.each
           (accepted, published, popped);
     })
 

@@ -463,8 +463,10 @@ module _ (config : List GuestConfig) (bases : ℕ → Partition) (accepted : ℕ
     pub pop_past : (n at : ℕ) → at ≡ n → length logs ≤ at → slice_get b.jobs n ≡ None
     pop_past n at same past = grind (arith, slice_get_within)
 
-    pub publish_past : (n at : ℕ) → at ≡ n → length logs ≤ at → in_place (slice_get b.dones n) ≡ None
-    publish_past n at same past = none_there b.dones n linked.places.dones (omega (arith, same, past))
+    pub publish_past : (n at : ℕ) → at ≡ n → length logs ≤ at → in_place (slice_get b.dones n) ≡
+        None
+    publish_past n at same past = none_there b.dones n linked.places.dones
+        (omega (arith, same, past))
 
 -- what a Publish asks for
 pub room_for_one : (b : BoardState CutState) (logs : List GuestLog) (n at : ℕ) (log : GuestLog)

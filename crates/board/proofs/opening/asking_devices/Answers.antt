@@ -11,7 +11,8 @@ pub loop-i-preserved : goal.loop-i-preserved
 loop-i-preserved c =
     let configs = c.args.guests.now in
     first_more first_asking first_asked (λ n. refl) (λ n c cs. refl) c.loop-i.devices.items
-    c.push.new.self.items (first_asked 0 configs) c.loop-i.i configs _ c.new.result c.loop-i-test.true c.new.ensures
+    c.push.new.self.items (first_asked 0 configs) c.loop-i.i configs _ c.new.result
+    c.loop-i-test.true c.new.ensures
     c.in_ok-push.ensures.items c.loop-i.invariant
 
 pub returns : goal.returns

@@ -60,7 +60,8 @@ returns-in-Ok-serve-clause-prints g c =
     served_print (length c.args.board.now) c.args.configs.now (map said c.args.lines.items)
     (g.W.Write.contents c.args.out.now) (g.W.Write.contents c.tell.new.out) c.tell.result.0
     c.tell.ensures.ends
-    (λ failed. prints_each drivers.items c.args.configs.now scripts.items (map said c.args.lines.items)
+    (λ failed. prints_each drivers.items c.args.configs.now scripts.items
+    (map said c.args.lines.items)
     (length c.args.board.now) (g.W.Write.contents c.args.out.now)
     (g.W.Write.contents c.tell.new.out)
     (omega (arith, c.in-Ok-serve.ensures.leaves.drivers, drivers.ok, parted, as_many)) as_many

@@ -24,7 +24,8 @@ returns-in-Ok-clause-shown g c =
     (Appends (g.W.Write.contents c.args.out.now)
     (g.W.Write.contents c.write_listing-written.new.out) (listing c.args.as_json l)) in
     let are_whole = λ (l : List Partition). OnOk c.write_listing-written.result (All IsWhole l) in
-    lists c.args.as_json _ (g.D.Disk.state c.args.disk) c.in-Ok.store.guests c.in-Ok.partitions.items _ _
+    lists c.args.as_json _ (g.D.Disk.state c.args.disk) c.in-Ok.store.guests
+    c.in-Ok.partitions.items _ _
     c.write_listing-written.result c.in-Ok.ensures.opened.begun c.in-Ok.ensures.opened.stand
     (subst listed c.as_slice.ensures.value c.write_listing-written.ensures.printed)
     (subst are_whole c.as_slice.ensures.value c.write_listing-written.ensures.whole)

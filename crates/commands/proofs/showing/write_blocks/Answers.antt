@@ -12,5 +12,6 @@ loop-address-preserved g c =
     let next = g.W.Write.contents c.write_block.new.out in
     one_block _ before next c.args.as_json c.loop-address.address c.args.guest c.args.partition.now
     c.loop-address.invariant
-    (subst (λ b. Appends before next (block_shown c.args.as_json c.args.guest c.loop-address.address b))
+    (subst (λ b. Appends before next (block_shown c.args.as_json c.args.guest
+    c.loop-address.address b))
     c.block.ensures c.in_ok-write_block.ensures.printed)

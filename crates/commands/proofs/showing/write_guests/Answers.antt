@@ -7,7 +7,8 @@ loop-guest-init g c = no_guests _ _ _
 
 pub loop-guest-preserved : goal.loop-guest-preserved
 loop-guest-preserved g c =
-    one_guest _ (g.W.Write.contents c.loop-guest.out) _ c.args.as_json c.args.partitions.now c.loop-guest.guest
+    one_guest _ (g.W.Write.contents c.loop-guest.out) _ c.args.as_json c.args.partitions.now
+    c.loop-guest.guest
     c.index-partitions-guest.result c.loop-guest.invariant
     c.loop-guest-test.true c.index-partitions-guest.is c.in_ok-write_guest.ensures.printed
     c.write_guest.ensures.whole

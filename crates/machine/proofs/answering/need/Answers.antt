@@ -1,6 +1,7 @@
 use Rattle.std.proofs.Common.{◌≡◌, ◌⊎◌, ◌∷◌, ◌∙◌, List, [], Some, ap, inl, inr, refl, subst, sym}
 use Rattle.std.proofs.Common.{ℕ, ◌<◌, ◌≤◌, IfSome, arith}
-use Rattle.machine.proofs.Common.{AskingState, Boards, Range, Runs, Still, Voids, slice_get, stand_of}
+use Rattle.machine.proofs.Common.{AskingState, Boards, Range, Runs, Still, Voids, slice_get}
+use Rattle.machine.proofs.Common.{stand_of}
 use Rattle.machine.proofs.Common.{standing}
 use Rattle.machine.specs.Ending.{left_by}
 use Rattle.machine.specs.Serving.{CantGoOn, HasParts, HasStopped, IsGoing, RefusesIn, TooLong}

@@ -9,7 +9,8 @@ use Rattle.machine.proofs.leaving.leave_one.Goals as goal
 pub returns-then-is_none-clause-runs : goal.returns-then-is_none-clause-runs
 returns-then-is_none-clause-runs c most =
     let s = standing [] c.args.turn.now.going c.args.turn.now.looked in
-    subst (λ rs. Runs c.args.guest most s c.args.board.now (standing rs s.going s.looked) c.collect.new.self)
+    subst (λ rs. Runs c.args.guest most s c.args.board.now (standing rs s.going s.looked)
+    c.collect.new.self)
     (sym c.requires.parts)
     (runs_step c.args.guest most s c.args.board.now c.collect.new.self
     (step.Collect c.args.guest) _ refl
@@ -46,7 +47,8 @@ returns-clause-runs c most =
     (subst (λ v. Runs g most s c.args.board.now (standing [] v c.prepare.new.turn.looked)
     c.prepare.new.board)
     (c.prepare.ensures.begun (let is = c.if-not-prepare.false in cc))
-    (runs_twice g most s s (standing [] c.prepare.new.turn.going c.prepare.new.turn.looked) c.args.board.now
+    (runs_twice g most s s (standing [] c.prepare.new.turn.going c.prepare.new.turn.looked)
+    c.args.board.now
     c.collect.new.self
     c.prepare.new.board
     (runs_step g most s c.args.board.now c.collect.new.self (step.Collect g) _ refl
@@ -72,7 +74,8 @@ returns-clause-did c is most =
     (subst (λ v. Runs g most s c.args.board.now (standing [] v c.prepare.new.turn.looked)
     c.prepare.new.board)
     (c.prepare.ensures.begun (let there = c.if-not-prepare.false in cc))
-    (runs_twice g most s s (standing [] c.prepare.new.turn.going c.prepare.new.turn.looked) c.args.board.now
+    (runs_twice g most s s (standing [] c.prepare.new.turn.going c.prepare.new.turn.looked)
+    c.args.board.now
     c.collect.new.self
     c.prepare.new.board
     (runs_step g most s c.args.board.now c.collect.new.self (step.Collect g) _ refl

@@ -31,7 +31,8 @@ returns-in-Ok-Some-Dropped-clause-runs c most =
     let o = c.in-Ok-Some-Dropped in
     let hands = subst (λ p. PublishesOf outbox_state OutboxMakes g (Ok p) b c.publish.new.self)
     (o.field-0-is ∙ ap Some o.field-0-0-is) o.ensures in
-    hands_by g most c.args.turn.now.looked [] _ _ b c.publish.new.self hands (ap stand_of c.stop.ensures)
+    hands_by g most c.args.turn.now.looked [] _ _ b c.publish.new.self hands
+    (ap stand_of c.stop.ensures)
     refl
 
 pub returns-in-Ok-Some-Wrote-clause-did : goal.returns-in-Ok-Some-Wrote-clause-did
@@ -53,7 +54,8 @@ returns-in-Ok-Some-Dropped-clause-did c is most =
     let o = c.in-Ok-Some-Dropped in
     let hands = subst (λ p. PublishesOf outbox_state OutboxMakes g (Ok p) b c.publish.new.self)
     (o.field-0-is ∙ ap Some o.field-0-0-is) o.ensures in
-    hands_does g most c.args.turn.now.looked [] _ _ b c.publish.new.self hands (ap stand_of c.stop.ensures)
+    hands_does g most c.args.turn.now.looked [] _ _ b c.publish.new.self hands
+    (ap stand_of c.stop.ensures)
     refl
 
 pub returns-in-Err-clause-count : goal.returns-in-Err-clause-count

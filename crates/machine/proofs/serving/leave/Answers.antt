@@ -21,7 +21,8 @@ returns-in-NoMemory c =
     record {
       went = went_by g c.args.most s a c.args.turn.now c.take_next.new.self a b _
           (runs_twice g c.args.most s t u a b b
-          (subst (λ ps. Runs g c.args.most (standing ps s.going s.looked) a t b) (sym c.requires.parts)
+          (subst (λ ps. Runs g c.args.most (standing ps s.going s.looked) a t b)
+          (sym c.requires.parts)
           (c.leave_one.ensures.runs c.args.most))
           (gives_up g c.args.most t.parts t.going t.looked u b (ap stand_of c.take_next.ensures)))
           (lacks g c.args.most fault.NoMemory s a c.take_next.new.self b refl) tt

@@ -60,7 +60,8 @@ returns-then-waits_for_reset-clause-runs c most =
     (moved b g c.notify.new.self)
     (subst (λ x. Runs g most s a (standing [] true w) x) (sym same) (c.begin.ensures.runs most w))
     (gives_up g most [] true w t (moved b g c.notify.new.self)
-    (ap stand_of c.take_next.ensures ∙ ap (λ v. standing v.parts false v.looked) c.begin.ensures.turn
+    (ap stand_of c.take_next.ensures ∙ ap (λ v. standing v.parts false v.looked)
+    c.begin.ensures.turn
     ∙ ap (λ ps. standing ps false w) c.requires.parts))
 
 pub returns-then-waits_for_reset-clause-none : goal.returns-then-waits_for_reset-clause-none

@@ -100,8 +100,10 @@ returns-in-NoMemory c =
 -- the driver was notified, or isn't to be
 module _ (guest most : ℕ) (a b d e : Boards) (t l : TurnState) (u : Stand) (none : t.parts ≡ [])
     (first : (most : ℕ) (s : Stand) → Runs guest most s a s b)
-    (second : Runs guest most (standing [] t.going t.looked) b (stand_of l) d) (empty : l.parts ≡ []) where
-  notified : Runs guest most (standing [] l.going l.looked) d u e → Runs guest most (stand_of t) a u e
+    (second : Runs guest most (standing [] t.going t.looked) b (stand_of l) d)
+    (empty : l.parts ≡ []) where
+  notified : Runs guest most (standing [] l.going l.looked) d u e → Runs guest most (stand_of t) a
+      u e
   notified third = runs_twice guest most (stand_of t) (stand_of l) u a d e
       (handed guest most a b d t (stand_of l) none first second)
       (subst (λ ps. Runs guest most (standing ps l.going l.looked) d u e) (sym empty) third)

@@ -23,7 +23,8 @@ returns-in-Asks c =
           o.turn c.args.board.now o.board _
           (from g c.args.most c.args.turn.now c.args.board.now o.board _ c.requires.parts
           e.takes.runs)
-          (subst (λ k. IsTaken g c.args.most (standing [] c.args.turn.now.going c.args.turn.now.looked) c.args.board.now
+          (subst (λ k. IsTaken g c.args.most (standing [] c.args.turn.now.going
+          c.args.turn.now.looked) c.args.board.now
           o.turn o.board k) c.in-Asks.is e.takes.became).0
           tt e.count e.keeps.1;
     }
@@ -67,14 +68,16 @@ returns-in-None c =
           (from g c.args.most t a o.board _ c.requires.parts e.takes.runs))
           tt
           (subst (λ v. DoesSome g c.args.most (stand_of t) a (stand_of v) o.board) (sym none.1)
-          (subst (λ ps. DoesSome g c.args.most (standing ps t.going t.looked) a (stand_of o.turn) o.board)
+          (subst (λ ps. DoesSome g c.args.most (standing ps t.going t.looked) a (stand_of o.turn)
+          o.board)
           (sym c.requires.parts) does))
           e.count (ap (λ v. v.asked) none.1 ∙ e.keeps.1);
     }
 
 pub settle_down-requires-clause-parts : goal.settle_down-requires-clause-parts
 settle_down-requires-clause-parts c =
-    (subst (λ k. IsTaken c.args.guest c.args.most (standing [] c.args.turn.now.going c.args.turn.now.looked)
+    (subst (λ k. IsTaken c.args.guest c.args.most (standing [] c.args.turn.now.going
+    c.args.turn.now.looked)
     c.args.board.now c.take_one.new.turn c.take_one.new.board k)
     c.in-Nothing.is c.take_one.ensures.takes.became).1
 
@@ -90,16 +93,19 @@ returns-in-Nothing c =
     record {
       went = went_on g most (stand_of t) a t o.turn d.new.turn a o.board d.new.board d.result
           (from g c.args.most t a o.board _ c.requires.parts e.takes.runs) e.count e.keeps.1
-          (subst (λ ps. Went g most (standing ps t.going t.looked) a o.turn d.new.turn o.board d.new.board
+          (subst (λ ps. Went g most (standing ps t.going t.looked) a o.turn d.new.turn o.board
+          d.new.board
           d.result) (sym c.requires.parts)
           (d.ensures.went most (standing [] t.going t.looked) a
-          (subst (λ k. IsTaken g most (standing [] t.going t.looked) a o.turn o.board k) c.in-Nothing.is
+          (subst (λ k. IsTaken g most (standing [] t.going t.looked) a o.turn o.board k)
+          c.in-Nothing.is
           e.takes.became).0));
     }
 
 pub settle_down-requires-in-Refused-clause-parts : goal.settle_down-requires-in-Refused-clause-parts
 settle_down-requires-in-Refused-clause-parts c =
-    (subst (λ k. IsTaken c.args.guest c.args.most (standing [] c.args.turn.now.going c.args.turn.now.looked)
+    (subst (λ k. IsTaken c.args.guest c.args.most (standing [] c.args.turn.now.going
+    c.args.turn.now.looked)
     c.args.board.now c.take_one.new.turn c.take_one.new.board k)
     c.in-Refused.is c.take_one.ensures.takes.became).1
 
@@ -115,9 +121,11 @@ returns-in-Refused c =
     record {
       went = went_on g most (stand_of t) a t o.turn d.new.turn a o.board d.new.board d.result
           (from g c.args.most t a o.board _ c.requires.parts e.takes.runs) e.count e.keeps.1
-          (subst (λ ps. Went g most (standing ps t.going t.looked) a o.turn d.new.turn o.board d.new.board
+          (subst (λ ps. Went g most (standing ps t.going t.looked) a o.turn d.new.turn o.board
+          d.new.board
           d.result) (sym c.requires.parts)
           (d.ensures.went most (standing [] t.going t.looked) a
-          (subst (λ k. IsTaken g most (standing [] t.going t.looked) a o.turn o.board k) c.in-Refused.is
+          (subst (λ k. IsTaken g most (standing [] t.going t.looked) a o.turn o.board k)
+          c.in-Refused.is
           e.takes.became).0));
     }

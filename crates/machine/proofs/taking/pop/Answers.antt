@@ -1,4 +1,5 @@
-use Rattle.std.proofs.Common.{◌≡◌, ◌≢◌, inl, inr, refl, ap, sym, subst, ◌∙◌, [], Ok, Err, true, false}
+use Rattle.std.proofs.Common.{◌≡◌, ◌≢◌, inl, inr, refl, ap, sym, subst, ◌∙◌, [], Ok, Err, true}
+use Rattle.std.proofs.Common.{false}
 use Rattle.machine.proofs.Common.{Makes, outbox_state, OutboxMakes, Still, stand_of, standing}
 use Rattle.board.specs.Asking.{PopsAsked}
 use Rattle.board.specs.Steps.{did_answer}

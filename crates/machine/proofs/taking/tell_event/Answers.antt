@@ -43,7 +43,8 @@ returns-in-Some-event-clause-runs c most ps g w =
       | in-None w ↦ absurd (let a = w.event-is in let b = c.in-Some-event.is in cc)
     ] in
     let two = sym (ap len_of own) ∙ two_bytes d.device.queue in
-    told_runs c.args.guest c.args.board.now d c.tell.new.self c.device.ensures.device most ps g w part
+    told_runs c.args.guest c.args.board.now d c.tell.new.self c.device.ensures.device most ps g w
+    part
     _
     c.tell.result (ByAPop own) (omega (arith, two)) (All-replicate (λ (v : ℕ). v ≡ 0) 2 0 refl)
     c.tell.ensures.ok c.tell.ensures.unchanged

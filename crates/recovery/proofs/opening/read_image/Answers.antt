@@ -39,7 +39,8 @@ returns-clause-read g c = on_ok c.read_guests.result _ (λ ok.
         after = went.synced;
         sync = went.sync;
         reads =
-            reads_on g.D.Disk.state g.D.Disk.makes _ _ _ went.reads c.read_guests.ensures.passes.reads;
+            reads_on g.D.Disk.state g.D.Disk.makes _ _ _ went.reads
+            c.read_guests.ensures.passes.reads;
       };
       synced = λ known k. w.unsynced (u.faithful ∙ known) k (c.in_ok-paired.ensures.synced known k);
       found = of_ok c.read_guests.result _ ok

@@ -26,7 +26,8 @@ returns-clause-choice c =
     split.ensures.has_more split.ensures.pattern) in
     let all = YieldsList-end road c.loop-line.yielded _ c.loop-line.yielded_by _ _ c.in-None.is
     c.next.ensures.steps in
-    c.answer.ensures.answer c.args.nonce.now (map (λ t. t.now) c.loop-line.yielded) c.loop-line.invariant
+    c.answer.ensures.answer c.args.nonce.now (map (λ t. t.now) c.loop-line.yielded)
+    c.loop-line.invariant
     ∙ ap (answer_of c.args.nonce.now) all.0
 
 pub returns-clause-counts : goal.returns-clause-counts

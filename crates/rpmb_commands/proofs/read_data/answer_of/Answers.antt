@@ -19,7 +19,8 @@ pub returns-in-Answer-clause-ok : goal.returns-in-Answer-clause-ok
 returns-in-Answer-clause-ok g c =
     let nonce = c.args.nonce.now in
     map_some (g.B.Read.remaining c.args.input.now) _ _ c.in-Ok.ensures.found (λ text found.
-    sym (answer_cut nonce text found.0 found.1) ∙ sym (c.answer.ensures.answer nonce found.0 found.2)
+    sym (answer_cut nonce text found.0 found.1) ∙ sym (c.answer.ensures.answer nonce found.0
+    found.2)
     ∙ ap chosen c.in-Answer.is)
 
 pub returns-clause-err : goal.returns-clause-err

@@ -10,4 +10,5 @@ invariant_of-self g c = rest_sound _ g.D.Disk.makes g.met.D.Disk.effect _ _ c.se
 pub returns-clause-steps : goal.returns-clause-steps
 returns-clause-steps g c = rest_asked _ g.D.Disk.makes g.met.D.Disk.effect
     (asked c.self.inside.devices.items c.self.inside.rest) c.self.invariant
-    c.what_always_holds.ensures (step.Collect c.args.guest) tt _ _ c.collect.ensures _ c.self.view_is
+    c.what_always_holds.ensures (step.Collect c.args.guest) tt _ _ c.collect.ensures _
+    c.self.view_is

@@ -14,7 +14,8 @@ give-requires g c =
     let b = board_of (asked c.self.inside.devices.items c.self.inside.rest) in
     record {
       may = λ i there free. (may_give_it g.D.Disk.state s.config s.bases s.accepted s.parts b
-          s.linked c.args.guest i (full_at (slice_get b.intents c.args.guest) i (sym there)) free).1;
+          s.linked c.args.guest i (full_at (slice_get b.intents c.args.guest) i (sym there))
+          free).1;
     }
 
 pub invariant_of-self : goal.invariant_of-self

@@ -12,6 +12,7 @@ returns-in_default-clause-any_moment g c =
 pub invariant_of-result : goal.invariant_of-result
 invariant_of-result g c =
     let rest = c.in_ok-rest.rest in
-    subst (λ ds. IsSound g.D.Disk.state (with_devices (map device_in ds) rest)) (sym c.in-Ok.ensures)
+    subst (λ ds. IsSound g.D.Disk.state (with_devices (map device_in ds) rest))
+    (sym c.in-Ok.ensures)
     (asked_sound g.D.Disk.state g.D.Disk.makes c.args.life c.args.config.now c.args.devices.now rest
     c.requires c.in_ok-rest.ensures.begins)

@@ -52,8 +52,10 @@ invariant_of-self-in-Ok-Some g c =
     let at = c.from-at.result in
     let below = c.if-at-len.false in
     let long = c.len.ensures in
-    let steps = pop_steps shows makes g.met.D.Disk.effect b c.self.invariant w at c.index_mut.result.now c.pop.new.self (Ok c.in-Ok-Some.field-0) (Ok Did)
-    (slice_set i.rest.jobs at (Some c.in-Ok-Some.job)) (c.awaits_job.ensures.0 c.if-not-awaits_job.false)
+    let steps = pop_steps shows makes g.met.D.Disk.effect b c.self.invariant w at
+    c.index_mut.result.now c.pop.new.self (Ok c.in-Ok-Some.field-0) (Ok Did)
+    (slice_set i.rest.jobs at (Some c.in-Ok-Some.job)) (c.awaits_job.ensures.0
+    c.if-not-awaits_job.false)
     (lent i.devices.items at c.index_mut.result.now (omega (arith, below, long))
     c.index_mut.ensures.value) c.in-Ok-Some.ensures.gives.step c.in-Ok-Some.ensures.gives.same
     (sym (ap (λ o. pop_answer (Ok o)) c.in-Ok-Some.field-0-is))
@@ -95,7 +97,8 @@ returns-in-Ok-None-clause-pops g c =
     subst (λ k. StepsAsked shows makes (step.Pop k) (Ok Nothing) c.args.self.now new)
     c.from-at.ensures
     (subst (λ v. StepsAsked shows makes (step.Pop at) (Ok Nothing) v new) c.self.view_is
-    (pop_steps shows makes g.met.D.Disk.effect b c.self.invariant w at c.index_mut.result.now c.pop.new.self (Ok c.in-Ok-None.field-0) (Ok Nothing) i.rest.jobs
+    (pop_steps shows makes g.met.D.Disk.effect b c.self.invariant w at c.index_mut.result.now
+    c.pop.new.self (Ok c.in-Ok-None.field-0) (Ok Nothing) i.rest.jobs
     (c.awaits_job.ensures.0 c.if-not-awaits_job.false)
     (lent i.devices.items at c.index_mut.result.now (omega (arith, below, long))
     c.index_mut.ensures.value) c.in-Ok-None.ensures.gives.step c.in-Ok-None.ensures.gives.same
@@ -113,8 +116,10 @@ returns-in-Ok-Some-clause-pops g c =
     let below = c.if-at-len.false in
     let long = c.len.ensures in
     let ds = slice_set i.devices.items at c.pop.new.self in
-    let steps = pop_steps shows makes g.met.D.Disk.effect b c.self.invariant w at c.index_mut.result.now c.pop.new.self (Ok c.in-Ok-Some.field-0) (Ok Did)
-    (slice_set i.rest.jobs at (Some c.in-Ok-Some.job)) (c.awaits_job.ensures.0 c.if-not-awaits_job.false)
+    let steps = pop_steps shows makes g.met.D.Disk.effect b c.self.invariant w at
+    c.index_mut.result.now c.pop.new.self (Ok c.in-Ok-Some.field-0) (Ok Did)
+    (slice_set i.rest.jobs at (Some c.in-Ok-Some.job)) (c.awaits_job.ensures.0
+    c.if-not-awaits_job.false)
     (lent i.devices.items at c.index_mut.result.now (omega (arith, below, long))
     c.index_mut.ensures.value) c.in-Ok-Some.ensures.gives.step c.in-Ok-Some.ensures.gives.same
     (sym (ap (λ o. pop_answer (Ok o)) c.in-Ok-Some.field-0-is))

@@ -29,7 +29,8 @@ invariant_of-self-in-Some-take_done g c =
     (subst (λ k. in_place (slice_get i.rest.dones k) ≡ Some c.in-Some.done.now)
     (sym c.from-at.ensures) (sym c.done.ensures ∙ ap option_copied c.in-Some.is)) lay
     (c.lacks.ensures.none c.in_default-lacks.is) in
-    let hand = hands shows makes g.met.D.Disk.effect b c.self.invariant w at c.index_mut.result.now c.publish.new.self done c.publish.result
+    let hand = hands shows makes g.met.D.Disk.effect b c.self.invariant w at c.index_mut.result.now
+    c.publish.new.self done c.publish.result
     (slice_set i.rest.dones at None) lay its
     c.publish.ensures.publishes c.publish.ensures.fits room refl in
     subst (λ r. IsSound shows (board_of (asked (slice_set i.devices.items at c.publish.new.self)
@@ -59,7 +60,8 @@ returns-in-Some-take_done g c =
     (subst (λ k. in_place (slice_get i.rest.dones k) ≡ Some c.in-Some.done.now)
     (sym c.from-at.ensures) (sym c.done.ensures ∙ ap option_copied c.in-Some.is)) lay
     (c.lacks.ensures.none c.in_default-lacks.is) in
-    let hand = hands shows makes g.met.D.Disk.effect b c.self.invariant w at c.index_mut.result.now c.publish.new.self done c.publish.result
+    let hand = hands shows makes g.met.D.Disk.effect b c.self.invariant w at c.index_mut.result.now
+    c.publish.new.self done c.publish.result
     (slice_set i.rest.dones at None) lay its
     c.publish.ensures.publishes c.publish.ensures.fits room refl in
     subst (λ k. HandsReply shows makes k c.publish.result c.args.self.now

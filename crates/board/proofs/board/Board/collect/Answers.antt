@@ -8,4 +8,5 @@ invariant_of-self g c = rest_sound _ g.D.Disk.makes g.met.D.Disk.effect _ _ c.se
 
 pub returns : goal.returns
 returns g c = rest_steps _ g.D.Disk.makes g.met.D.Disk.effect _ _ c.self.invariant
-    c.what_always_holds.ensures (step.Collect c.args.guest) tt _ _ c.collect.ensures _ c.self.view_is
+    c.what_always_holds.ensures (step.Collect c.args.guest) tt _ _ c.collect.ensures _
+    c.self.view_is

@@ -13,5 +13,6 @@ returns g c =
     (beside (λ d. d) (λ t. i.tallies.items) (λ j. i.jobs.items) (λ r. i.dones.items)
     (over i.book c.advance.new.self))) c.self.view_is
     (advances (λ d. d) (λ t. i.tallies.items) (λ j. i.jobs.items) (λ r. i.dones.items)
-    (answer_by fault.Store c.advance.result) (over i.book i.keeper) (over i.book c.advance.new.self) g.D.Disk.state g.D.Disk.makes i.keeper.report
+    (answer_by fault.Store c.advance.result) (over i.book i.keeper)
+    (over i.book c.advance.new.self) g.D.Disk.state g.D.Disk.makes i.keeper.report
     (c.advance.ensures.advances i.book))

@@ -13,5 +13,6 @@ returns g c =
     (over i.book c.give.new.self))) c.self.view_is
     (gives (λ d. d) (λ t. i.tallies.items) (λ j. i.jobs.items) (λ r. i.dones.items)
     (did_answer c.give.result) (over i.book i.keeper) (over i.book c.give.new.self) c.args.guest
-    (is_free i.keeper.store.guests c.args.guest) (in_place (slice_get i.keeper.intents c.args.guest))
+    (is_free i.keeper.store.guests c.args.guest) (in_place
+    (slice_get i.keeper.intents c.args.guest))
     (c.give.ensures.gives i.book))

@@ -46,4 +46,5 @@ returns-clause-found g c =
 pub returns-clause-calls : goal.returns-clause-calls
 returns-clause-calls g c = calls_over g.D.Disk.makes c.args.disk c.in_ok-store.store
     (without_devices (new_board c.args.life c.args.config.now c.in_ok-store.partitions.items
-    c.in_ok-store.store)) c.over.result refl c.over.ensures.rest c.over.ensures.refused c.in_ok-store.ensures.calls
+    c.in_ok-store.store)) c.over.result refl c.over.ensures.rest c.over.ensures.refused
+    c.in_ok-store.ensures.calls

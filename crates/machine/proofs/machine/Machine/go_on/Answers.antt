@@ -32,7 +32,8 @@ loop-guest-preserved c =
       h.ensures.devices ∙ l.invariant.1,
       h.ensures.keeps.0 ∙ l.invariant.2,
       whole_twice c.args.self.now.board.rest l.self-inside.board.rest h.new.board.rest l.invariant.3
-          (runs_whole _ 0 (standing [] false false) (standing [] false false) l.self-inside.board h.new.board
+          (runs_whole _ 0 (standing [] false false) (standing [] false false) l.self-inside.board
+          h.new.board
           (h.ensures.runs 0 (standing [] false false))),
       l.invariant.4,
       l.invariant.5,

@@ -6,4 +6,5 @@ use Rattle.mmio_transport.proofs.asking.AskingDevice.lacks.Goals as goal
 pub returns-in-None-clause-none : goal.returns-in-None-clause-none
 returns-in-None-clause-none c = λ none due.
     subst (λ (d : AskingState). HasRoomIn d.device.queue d c.args.done.now) c.self.view_is
-    (room_in_queue _ c.self.inside.queue c.in-Some.queue c.args.done.now c.in-Some.is (c.lacks.ensures.none c.in-None.is) (c.lacks-in-None.ensures.none none))
+    (room_in_queue _ c.self.inside.queue c.in-Some.queue c.args.done.now c.in-Some.is
+    (c.lacks.ensures.none c.in-None.is) (c.lacks-in-None.ensures.none none))

@@ -23,7 +23,8 @@ scatter-requires-clause-held c =
     let due : IsDueIn d.device.queue d.device c.args.done = search rules in
     let queue = sym (ap (λ (v : AskingState). v.device.queue) c.self.view_is) ∙ c.in-Some.is in
     let room = room_of_queue d d.device.queue c.in-Some.queue c.args.done queue (c.requires due) in
-    subst (λ (v : AskingState). AreHeld (known v) c.args.done.writable (length c.args.done.reply)) (sym c.self.view_is) room.reply
+    subst (λ (v : AskingState). AreHeld (known v) c.args.done.writable (length c.args.done.reply))
+    (sym c.self.view_is) room.reply
 
 pub publish-notify-requires-clause-held : goal.publish-notify-requires-clause-held
 publish-notify-requires-clause-held c =
@@ -31,5 +32,7 @@ publish-notify-requires-clause-held c =
     let due : IsDueIn d.device.queue d.device c.args.done = search rules in
     let queue = sym (ap (λ (v : AskingState). v.device.queue) c.self.view_is) ∙ c.in-Some.is in
     let room = room_of_queue d d.device.queue c.in-Some.queue c.args.done queue (c.requires due) in
-    let used = subst (λ (v : AskingState). used_held c.in-Some.queue.kind (known v) c.in-Some.queue.ring) (sym c.self.view_is) room.used in
-    used_held_still c.in-Some.queue.kind c.self.inside.memory c.scatter.new.memory c.in-Some.queue.ring c.scatter.ensures.held used
+    let used = subst (λ (v : AskingState). used_held c.in-Some.queue.kind (known v)
+    c.in-Some.queue.ring) (sym c.self.view_is) room.used in
+    used_held_still c.in-Some.queue.kind c.self.inside.memory c.scatter.new.memory
+    c.in-Some.queue.ring c.scatter.ensures.held used

@@ -19,7 +19,8 @@ returns-clause-left g c =
     sym c.in-Some.ensures in
     let free = subst (λ n. is_free i.keeper.store.guests n ≡ true) own may.free in
     let did = gave no_book no_book i.keeper c.give.new.self c.args.guest
-    (is_free i.keeper.store.guests c.args.guest) (in_place (slice_get i.keeper.intents c.args.guest))
+    (is_free i.keeper.store.guests c.args.guest) (in_place
+    (slice_get i.keeper.intents c.args.guest))
     intent c.give.result (e.gives no_book) free lies in (
       (λ first keeps. keeps_given g.D.Disk.state g.D.Disk.makes first
           (record { store = i.keeper.store; keys = i.keys.items })
