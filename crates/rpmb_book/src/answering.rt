@@ -152,7 +152,7 @@ impl Book {
     {
         let (rooms, left) = rooms.or(self.history.spare(alloc));
         let guest = &self.guests[usize::from(job.ticket().guest)];
-        let plan = guest.plan(alloc, job, self.broken, check, rooms)?;
+        let plan = guest.plan(alloc, job, self.broken, check, rooms, &mut self.reply)?;
         Ok((plan, left))
     }
 
@@ -193,7 +193,7 @@ impl Book {
             request,
             reply,
             key,
-        } = guest.submit(alloc, job, plan);
+        } = guest.submit(alloc, job, plan, &mut self.reply);
         self.history.push(Filed {
             number: receipt.number,
             place: tally.count(),

@@ -47,6 +47,8 @@ pub struct Book {
     pub(crate) counted: u64,
     /// The Submits that stand.
     pub(crate) history: History,
+    /// Where a reply is built: no request has to clear or make it.
+    pub(crate) reply: Box<[u8; 8192]>,
 }
 
 impl Model for Book {
@@ -83,6 +85,7 @@ impl Book {
     {
         let count = config.guests().len();
         let history = History::new(alloc)?;
+        let reply = Box::new(alloc, [0; 8192])?;
         let tallies = tallies(alloc, count)?;
         let sequences = sequences(alloc, &partitions)?;
         let guests = guests(alloc, config, partitions)?;
@@ -95,6 +98,7 @@ impl Book {
             turns: 0,
             counted: 0,
             history,
+            reply,
         };
         Ok((book, tallies, Shares::of(sequences)))
     }

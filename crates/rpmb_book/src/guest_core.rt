@@ -70,12 +70,12 @@ pub struct Answer {
     pub entry: Option<Entry>,
 }
 
-/// The type of the failure reply to a job, and the reply, twice.
+/// The failure reply to a job, twice, and its type.
 #[derive(Drop)]
 pub struct Failure {
-    pub kind: u16,
     pub reply: Vec<u8>,
     pub copy: Vec<u8>,
+    pub kind: u16,
 }
 
 impl GuestCore {
@@ -146,8 +146,8 @@ impl GuestCore {
         })
     }
 
-    /// Answers a job as planned. It takes no memory.
-    pub fn carry_out(&mut self, job: &Job, plan: Plan) -> Answer
+    /// Answers a job as planned, and builds its reply in `out`. It takes no memory.
+    pub fn carry_out(&mut self, job: &Job, plan: Plan, out: &mut [u8; 8192]) -> Answer
         requires plan { IsPlanned self.old job.now plan }
         requires board { IsCoreOfBoard self.old }
         ensures core { self.new ≡ core_after self.old job.now }
@@ -158,18 +158,19 @@ impl GuestCore {
             code,
             is_accepted,
             reply,
-            mut copy,
+            copy,
             blocks,
         } = plan;
         apply(&mut self.partition, &request, is_accepted);
         let entry = entry_if(&request, is_accepted, blocks);
         let outcome = Outcome::of(&request, code, self.partition.counter());
         self.last = keep(self.last, job.ticket().session, outcome);
-        self.partition
-            .open_reply(&request, code, outcome_in(self.last), &mut copy);
+        let len = self
+            .partition
+            .open_reply(&request, code, outcome_in(self.last), out);
         Answer {
-            reply: filled(reply, &copy),
-            copy,
+            reply: filled(reply, &out[..len]),
+            copy: filled(copy, &out[..len]),
             key: self.partition.key(),
             need: self.partition.sequence(),
             kind: failure_kind(&request),
@@ -177,8 +178,13 @@ impl GuestCore {
         }
     }
 
-    /// The failure reply to a job of a broken book.
-    pub fn failure(&self, alloc: Global, job: &Job) -> Result<Failure, NoMemory>
+    /// The failure reply to a job of a broken book, built in `out`.
+    pub fn failure(
+        &self,
+        alloc: Global,
+        job: &Job,
+        out: &mut [u8; 8192],
+    ) -> Result<Failure, NoMemory>
         ensures reply { IfOk result (λ f. f.reply.items ≡ answer_when true self.now job.now) }
         ensures fits { IfOk result (λ f. length f.reply.items ≤ room_of job.now) }
         ensures whole { IfOk result
@@ -188,12 +194,13 @@ impl GuestCore {
             (λ f. f.kind ≡ failure_kind (request_of self.now job.now).command) }
     {
         let request = Request::classify(job.request(), job.writable(), self.limits);
-        let reply = Partition::failure(alloc, &request, GENERAL_FAILURE)?;
-        let copy = Vec::from_slice(alloc, &reply)?;
+        let len = Partition::failure(&request, GENERAL_FAILURE, out);
+        let reply = Vec::from_slice(alloc, &out[..len])?;
+        let copy = Vec::from_slice(alloc, &out[..len])?;
         Ok(Failure {
-            kind: failure_kind(&request),
             reply,
             copy,
+            kind: failure_kind(&request),
         })
     }
 

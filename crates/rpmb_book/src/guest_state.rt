@@ -147,7 +147,7 @@ impl GuestState {
 
     /// Makes all the memory that the answer to a job takes, of a book that is broken, or isn't. Of
     /// one that isn't, what the check of the job's MAC came to counts, and the rooms serve where
-    /// they fit.
+    /// they fit. A failure reply is built in `out`.
     pub fn plan(
         &self,
         alloc: Global,
@@ -155,13 +155,14 @@ impl GuestState {
         broken: bool,
         check: &MacCheck,
         rooms: Rooms,
+        out: &mut [u8; 8192],
     ) -> Result<GuestPlan, NoMemory>
         requires { Says (frames_of job.now.request) check.now }
         ensures planned { IfOk result (IsGuestPlanned job.now self.now) }
         ensures failure { IfOk result (λ p. is_failure p ≡ broken) }
     {
         if broken {
-            let failure = self.core.failure(alloc, job)?;
+            let failure = self.core.failure(alloc, job, out)?;
             Ok(GuestPlan::Failure(failure))
         } else {
             let plan = self.core.plan(alloc, job, check, rooms)?;
@@ -169,9 +170,9 @@ impl GuestState {
         }
     }
 
-    /// Answers a job as planned. It takes no memory: the job goes along with its reply, and its
-    /// request to the history.
-    pub fn submit(&mut self, alloc: Global, job: Job, plan: GuestPlan) -> Said
+    /// Answers a job as planned; the reply is built in `out`. It takes no memory: the job goes
+    /// along with its reply, and its request to the history.
+    pub fn submit(&mut self, alloc: Global, job: Job, plan: GuestPlan, out: &mut [u8; 8192]) -> Said
         requires plan { IsGuestPlanned job self.old plan }
         requires places { HasPlaces (is_failure plan) self.old }
         ensures request { result.request.items ≡ job.request }
@@ -182,7 +183,7 @@ impl GuestState {
     {
         match plan {
             GuestPlan::Failure(failure) => self.submit_failure(alloc, job, failure),
-            GuestPlan::Answer(plan) => self.submit_answer(alloc, job, plan),
+            GuestPlan::Answer(plan) => self.submit_answer(alloc, job, plan, out),
         }
     }
 
@@ -209,7 +210,7 @@ impl GuestState {
     }
 
     /// Answers a job by its request.
-    fn submit_answer(&mut self, alloc: Global, job: Job, plan: Plan) -> Said
+    fn submit_answer(&mut self, alloc: Global, job: Job, plan: Plan, out: &mut [u8; 8192]) -> Said
         requires plan { IsPlanned self.old.core job plan }
         requires places { HasPlaces false self.old }
         ensures request { result.request.items ≡ job.request }
@@ -224,7 +225,7 @@ impl GuestState {
             need,
             kind,
             entry,
-        } = self.core.carry_out(&job, plan);
+        } = self.core.carry_out(&job, plan, out);
         let (job, request) = job.without_request(alloc);
         let due = Due::of(job, reply, need, key);
         self.held.push_back_reserved(Held::of(due, kind));

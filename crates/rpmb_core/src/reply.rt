@@ -1,6 +1,5 @@
 //! The reply to a request.
-ghost use Rattle.std.specs.Prelude.{◌≡◌, ◌≤◌, if◌then◌else◌, ◌+◌, ◌*◌, ◌/◌, ◌++◌, [], Some, length};
-ghost use Rattle.std.specs.Prelude.{true, vec_capacity};
+ghost use Rattle.std.specs.Prelude.{◌≡◌, ◌≤◌, if◌then◌else◌, ◌*◌, ◌/◌, ◌++◌, Some, length, drop};
 ghost use Rattle.std.specs.List.{AllByRecursion};
 ghost use Rattle.rpmb_frame.specs.Frame.{block_count_of, with_block_data};
 ghost use Rattle.rpmb_frame.specs.Partition.{block_of};
@@ -23,22 +22,28 @@ const KEY_MAC: usize = 196;
 const DATA: usize = 228;
 
 impl Partition {
-    /// Builds the reply to a request that had this result in an empty list, which has room for it:
-    /// nothing, 512 bytes, or 512 for each block of a DATA_READ. The partition is the one after the
-    /// request, `last` the stored outcome, this request's included. The last frame has the MAC of
-    /// the whole reply, where the partition has a key. It takes no memory.
-    pub fn reply(&self, request: &Request<'_>, code: u16, last: Option<Outcome>, out: &mut Vec<u8>)
-        requires gives { GivesBlocks request.now.command code → verdict self.now request.now ≡ 0 }
-        requires empty { out.old.items ≡ [] }
-        requires room { reply_length request.now.command request.now.writable code
-            ≤ vec_capacity out.old }
-        ensures { out.new.items ≡ reply self.now request.now code last }
+    /// Writes the reply to a request that had this result to the front of `out`, and says its
+    /// length in bytes: 0, 512, or 512 for each block of a DATA_READ. The partition is the one
+    /// after the request, `last` the stored outcome, this request's included. The last frame has
+    /// the MAC of the whole reply, where the partition has a key.
+    pub fn reply(
+        &self,
+        request: &Request<'_>,
+        code: u16,
+        last: Option<Outcome>,
+        out: &mut [u8; 8192],
+    ) -> usize
+        requires { GivesBlocks request.now.command code → verdict self.now request.now ≡ 0 }
+        ensures size { result ≡ reply_length request.now.command request.now.writable code }
+        ensures len { result ≡ length (reply self.now request.now code last) }
+        ensures bytes { out.new ≡ reply self.now request.now code last ++ drop result out.old }
     {
-        self.open_reply(request, code, last, out);
-        self.seal(out);
+        let len = self.open_reply(request, code, last, out);
+        self.seal(&mut out[..len]);
+        len
     }
 
-    /// Builds the reply as `reply` does, but for its MAC: `close` under the partition's key puts
+    /// Writes the reply as `reply` does, but for its MAC: `close` under the partition's key puts
     /// that in.
     #[tactic(auto, unfolding(crate::specs::Reply::open_reply, crate::specs::Reply::reply))]
     pub fn open_reply(
@@ -46,15 +51,12 @@ impl Partition {
         request: &Request<'_>,
         code: u16,
         last: Option<Outcome>,
-        out: &mut Vec<u8>,
-    )
-        requires gives { GivesBlocks request.now.command code → verdict self.now request.now ≡ 0 }
-        requires empty { out.old.items ≡ [] }
-        requires room { reply_length request.now.command request.now.writable code
-            ≤ vec_capacity out.old }
-        ensures bytes { out.new.items ≡ open_reply self.now request.now code last }
-        ensures size { length out.new.items
-            ≡ reply_length request.now.command request.now.writable code }
+        out: &mut [u8; 8192],
+    ) -> usize
+        requires { GivesBlocks request.now.command code → verdict self.now request.now ≡ 0 }
+        ensures size { result ≡ reply_length request.now.command request.now.writable code }
+        ensures len { result ≡ length (open_reply self.now request.now code last) }
+        ensures bytes { out.new ≡ open_reply self.now request.now code last ++ drop result out.old }
         ensures closes { closed self.now.key (open_reply self.now request.now code last)
             ≡ reply self.now request.now code last }
     {
@@ -74,48 +76,51 @@ impl Partition {
         }
     }
 
-    /// Builds the only frame of a reply that gives no blocks, or nothing where none is due.
-    #[tactic(auto, unfolding(rpmb_frame::specs::Frame::zero_frame))]
-    fn open_frame(&self, request: &Request<'_>, code: u16, last: Option<Outcome>, out: &mut Vec<u8>)
-        requires empty { out.old.items ≡ [] }
-        requires room { is_answered request.now.command request.now.writable ≡ true
-            → 512 ≤ vec_capacity out.old }
-        ensures bytes { out.new.items
-            ≡ joined (one_frame self.now request.now.command request.now.writable code last) }
-        ensures size { length out.new.items
+    /// Writes the only frame of a reply that gives no blocks, or nothing where none is due.
+    fn open_frame(
+        &self,
+        request: &Request<'_>,
+        code: u16,
+        last: Option<Outcome>,
+        out: &mut [u8; 8192],
+    ) -> usize
+        ensures size { result
             ≡ (if is_answered request.now.command request.now.writable then 512 else 0) }
+        ensures len { result ≡ length
+            (joined (one_frame self.now request.now.command request.now.writable code last)) }
+        ensures bytes { out.new
+            ≡ joined (one_frame self.now request.now.command request.now.writable code last)
+            ++ drop result out.old }
         ensures closes { closed self.now.key
             (joined (one_frame self.now request.now.command request.now.writable code last))
             ≡ joined (sealed self.now.key
             (one_frame self.now request.now.command request.now.writable code last)) }
     {
         if !is_answered(request) {
-            return;
+            return 0;
         }
-        if out.resize(FRAME_SIZE, 0).is_err() {
-            unreachable!();
-        }
-        Response::to(request, self.counter(), code, last).put(out);
+        let response = Response::to(request, self.counter(), code, last);
+        response.put(&mut out[..FRAME_SIZE]);
+        FRAME_SIZE
     }
 
-    /// Builds the frames of a DATA_READ that succeeds.
-    #[tactic(auto, unfolding(rpmb_frame::specs::Frame::zero_frame))]
-    fn open_read(&self, frame: &[u8; 512], limits: Limits, out: &mut Vec<u8>)
+    /// Writes the frames of a DATA_READ that succeeds.
+    fn open_read(&self, frame: &[u8; 512], limits: Limits, out: &mut [u8; 8192]) -> usize
         requires some { 1 ≤ block_count_of frame.now }
         requires few { block_count_of frame.now ≤ limits.max_rd_cnt }
-        requires empty { out.old.items ≡ [] }
-        requires room { 512 * block_count_of frame.now ≤ vec_capacity out.old }
-        ensures bytes { out.new.items ≡ joined (block_frames self.now frame.now) }
-        ensures size { length out.new.items ≡ 512 * block_count_of frame.now }
+        ensures size { result ≡ 512 * block_count_of frame.now }
+        ensures len { result ≡ length (joined (block_frames self.now frame.now)) }
+        ensures bytes { out.new ≡ joined (block_frames self.now frame.now) ++ drop result out.old }
         ensures closes { closed self.now.key (joined (block_frames self.now frame.now))
             ≡ joined (sealed self.now.key (block_frames self.now frame.now)) }
     {
-        let _limit = limits.max_rd_cnt(); // for the checker: the blocks have numbers
+        let _limit = limits.max_rd_cnt(); // for the checker: the frames fit the reply
         let request = Frame::from_bytes(frame);
         let count = usize::from(request.block_count());
         let mut base = [0; 512];
         Response::to_read(frame, OK).put(&mut base);
-        self.add_blocks(&base, usize::from(request.address()), count, out);
+        self.put_blocks(&base, usize::from(request.address()), count, out);
+        FRAME_SIZE * count
     }
 
     /// How many bytes the reply to a request has that had this result.
@@ -143,47 +148,32 @@ impl Partition {
         }
     }
 
-    /// Builds a frame like `base` for each of so many blocks from an address on.
-    fn add_blocks(&self, base: &[u8; 512], address: usize, count: usize, out: &mut Vec<u8>)
+    /// Writes a frame like `base` for each of so many blocks from an address on.
+    fn put_blocks(&self, base: &[u8; 512], address: usize, count: usize, out: &mut [u8; 8192])
         requires few { count ≤ 16 }
         requires low { address ≤ 65_535 }
-        requires empty { out.old.items ≡ [] }
-        requires room { 512 * count ≤ vec_capacity out.old }
-        ensures built { out.new.items
-            ≡ joined (read_frames base.now (blocks_from self.now address count)) }
+        ensures written { out.new
+            ≡ joined (read_frames base.now (blocks_from self.now address count))
+            ++ drop (512 * count) out.old }
         ensures whole { AllByRecursion (λ frame. length frame ≡ 512)
             (read_frames base.now (blocks_from self.now address count)) }
-        ensures size { length out.new.items ≡ 512 * count }
+        ensures many { length (read_frames base.now (blocks_from self.now address count)) ≡ count }
     {
         for i in 0..count {
-            self.add_frame(base, address + i, out);
+            let at = FRAME_SIZE * i;
+            self.put_frame(base, address + i, &mut out[at..at + FRAME_SIZE]);
         }
     }
 
-    /// Adds a frame like `base` with the block of this number.
-    fn add_frame(&self, base: &[u8; 512], index: usize, out: &mut Vec<u8>)
-        requires low { index ≤ 65_552 }
-        requires room { length out.old.items + 512 ≤ vec_capacity out.old }
-        ensures added { out.new.items
-            ≡ out.old.items ++ with_block_data (block_of self.now index) base.now }
-        ensures long { length (with_block_data (block_of self.now index) base.now) ≡ 512 }
-        ensures room { vec_capacity out.old ≤ vec_capacity out.new }
-    {
-        let at = out.len();
-        if out.extend_from_slice(base).is_err() {
-            unreachable!();
-        }
-        self.put_block(index, &mut out[at..at + FRAME_SIZE]);
-    }
-
-    /// Puts the block of this number into a frame.
+    /// Writes a frame like `base` with the block of this number.
     #[tactic(auto, unfolding(rpmb_frame::specs::Frame::with_block_data))]
-    fn put_block(&self, index: usize, frame: &mut [u8])
+    fn put_frame(&self, base: &[u8; 512], index: usize, room: &mut [u8])
         requires low { index ≤ 65_552 }
-        requires room { length frame.old ≡ 512 }
-        ensures { frame.new ≡ with_block_data (block_of self.now index) frame.old }
+        requires room { length room.old ≡ 512 }
+        ensures { room.new ≡ with_block_data (block_of self.now index) base.now }
     {
-        self.copy_block(index, &mut frame[DATA..DATA + 256]);
+        room.copy_from_slice(base);
+        self.copy_block(index, &mut room[DATA..DATA + 256]);
     }
 }
 

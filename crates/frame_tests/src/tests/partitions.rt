@@ -63,7 +63,7 @@ fn leaves(alloc: Global, scenario: &Scenario, told: &Leaving) -> Result<bool, Fa
     let (capacity, counts, key, counter, sequence, firsts) = *told;
     let limits = limits_of(alloc, counts)?;
     let mut partition = Partition::new(alloc, capacity)?;
-    take_steps(alloc, &mut partition, limits, scenario)?;
+    take_steps(&mut partition, limits, scenario)?;
     let left = Left {
         key,
         counter,
@@ -113,8 +113,7 @@ fn copy_at_the_last_counter(rt: HostRuntime) -> Result<(), Fail> {
     let blocks = vec![in alloc; 0; 131_072]?;
     let near = Partition::of(1, KEYED, 0xFFFF_FFFE, blocks);
     let mut partition = near.copy(alloc)?;
-    let limits = limits_of(alloc, (16, 16))?;
-    take_steps(alloc, &mut partition, limits, &LAST_COUNTER)?;
+    take_steps(&mut partition, limits_of(alloc, (16, 16))?, &LAST_COUNTER)?;
     let end = partition.copy(alloc)?;
     assert!(rt;
         state_of(&near)
@@ -159,8 +158,10 @@ fn fails_as_told(
     code: u16,
     told: &[Row],
 ) -> Result<bool, Fail> {
-    let out = Partition::failure(alloc, request, code)?;
-    Ok(is_reply(&out, told) && becomes_failure(alloc, request, code, told.len(), &out)?)
+    let mut out = [0xee; 8192];
+    let len = Partition::failure(request, code, &mut out);
+    let is_told = len == 512 * told.len().min(16) && is_reply(&out, told);
+    Ok(is_told && becomes_failure(alloc, request, code, told.len(), &out[..len])?)
 }
 
 /// Whether the failure reply to these bytes is as told.
@@ -183,7 +184,7 @@ fn step_fails_as_told(
     request: &[Row],
     reply: &[Row],
 ) -> Result<bool, Fail> {
-    let frames = frames_of(request);
+    let frames = frames_of(request, 0);
     bytes_fail_as_told(
         alloc,
         limits,
@@ -214,25 +215,20 @@ fn failure_replies(rt: HostRuntime) -> Result<(), Fail> {
 static MALFORMED: [Row; 1] = [(0, [0; 4], 0, [0; 2], 0, 0x0000_0000_0001_0000)];
 
 /// Whether these bytes are answered as malformed.
-fn is_malformed(
-    alloc: Global,
-    partition: &Partition,
-    limits: Limits,
-    bytes: &[u8],
-) -> Result<bool, Fail> {
+fn is_malformed(partition: &Partition, limits: Limits, bytes: &[u8]) -> bool {
     let request = Request::classify(bytes, 512, limits);
-    let mut out = Vec::with_capacity(alloc, Partition::reply_len(&request, 1))?;
-    partition.reply(&request, 1, None, &mut out);
-    Ok(partition.verdict(&request) == 1 && is_reply(&out, &MALFORMED))
+    let mut out = [0xee; 8192];
+    partition.verdict(&request) == 1
+        && partition.reply(&request, 1, None, &mut out) == 512
+        && is_reply(&out, &MALFORMED)
 }
 
 /// Bytes that are no frames are answered as malformed.
 #[test]
 fn bytes_that_are_no_frames(rt: HostRuntime) -> Result<(), Fail> {
-    let alloc = rt.alloc();
-    let limits = limits_of(alloc, (16, 16))?;
-    let partition = Partition::new(alloc, 1)?;
-    check_row(is_malformed(alloc, &partition, limits, &[])?, 0)?;
-    check_row(is_malformed(alloc, &partition, limits, &[0; 511])?, 511)?;
-    check_row(is_malformed(alloc, &partition, limits, &[0; 513])?, 513)
+    let limits = limits_of(rt.alloc(), (16, 16))?;
+    let partition = Partition::new(rt.alloc(), 1)?;
+    check_row(is_malformed(&partition, limits, &[]), 0)?;
+    check_row(is_malformed(&partition, limits, &[0; 511]), 511)?;
+    check_row(is_malformed(&partition, limits, &[0; 513]), 513)
 }

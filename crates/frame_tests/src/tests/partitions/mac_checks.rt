@@ -48,7 +48,7 @@ fn is_as_told(alloc: Global, row: &Row) -> Result<bool, Fail> {
     let blocks = vec![in alloc; 0; 131_072]?;
     let partition = Partition::of(1, Some([key; 32]), counter, blocks);
     let rows = BLOCKS.requests.get(from..).unwrap_or(&[]);
-    let mut frames = frames_of(rows);
+    let mut frames = frames_of(rows, 0);
     frames[0][228] ^= u8::from(is_changed);
     let limits = limits_of(alloc, (16, 16))?;
     Ok(verdicts(&partition, first_bytes(&frames, count), limits) == [told; 4])

@@ -3,7 +3,6 @@
 use crate::tests::checks::same;
 use rpmb_core::{OK, Outcome, Partition, is_change};
 use rpmb_frame::{Limits, Request};
-use std::alloc::Global;
 use std::test::Fail;
 
 /// The fields of a frame in their order: the byte that stuff repeats, key_mac, the byte that the
@@ -44,9 +43,9 @@ fn frame(row: &Row) -> [u8; 512] {
     bytes
 }
 
-/// The frames that rows say, and behind them frames of zeros.
-pub fn frames_of(rows: &[Row]) -> [[u8; 512]; 18] {
-    let mut frames = [[0; 512]; 18];
+/// The frames that rows say, and behind them frames of one byte.
+pub fn frames_of(rows: &[Row], behind: u8) -> [[u8; 512]; 18] {
+    let mut frames = [[behind; 512]; 18];
     for (i, row) in rows.iter().take(18).enumerate() {
         frames[i] = frame(row);
     }
@@ -58,19 +57,19 @@ pub fn first_bytes(frames: &[[u8; 512]; 18], count: usize) -> &[u8] {
     frames[..count.min(18)].as_flattened()
 }
 
-/// Whether these bytes are the reply that rows say.
-pub fn is_reply(out: &[u8], rows: &[Row]) -> bool {
-    same(out, first_bytes(&frames_of(rows), rows.len()))
+/// Whether these bytes are a reply, and behind it the bytes 0xee that stood there.
+pub fn is_reply(out: &[u8; 8192], rows: &[Row]) -> bool {
+    same(out, first_bytes(&frames_of(rows, 0xee), 16))
 }
 
-/// The result of a request and its reply, as a guest gets them; None where memory was refused.
+/// The result of a request and the length of its reply, as a guest gets them.
 #[tactic(auto, unfolding(rpmb_core::specs::Accept::is_accepted))]
 fn answer(
-    alloc: Global,
     partition: &mut Partition,
     request: &Request<'_>,
     last: &mut Option<Outcome>,
-) -> Option<(u16, Vec<u8>)> {
+    out: &mut [u8; 8192],
+) -> (u16, usize) {
     let code = partition.verdict(request);
     if is_change(request) && code == OK {
         partition.accept(request);
@@ -79,31 +78,27 @@ fn answer(
     if outcome.is_some() {
         *last = outcome;
     }
-    let Ok(mut out) = Vec::with_capacity(alloc, Partition::reply_len(request, code)) else {
-        return None;
-    };
-    partition.reply(request, code, *last, &mut out);
-    Some((code, out))
+    (code, partition.reply(request, code, *last, out))
 }
 
 /// Whether a request has this result and this reply.
 pub fn goes_as_told(
-    alloc: Global,
     partition: &mut Partition,
     request: &Request<'_>,
     last: &mut Option<Outcome>,
     told: u16,
     reply: &[Row],
 ) -> bool {
-    match answer(alloc, partition, request, last) {
-        Some((code, out)) => code == told && is_reply(&out, reply),
-        None => false,
-    }
+    let mut out = [0xee; 8192];
+    let (code, len) = answer(partition, request, last, &mut out);
+    code == told
+        && len == 512 * reply.len().min(16)
+        && Partition::reply_len(request, code) == len
+        && is_reply(&out, reply)
 }
 
 /// Takes the steps, each of which gives its result and its reply.
 pub fn take_steps(
-    alloc: Global,
     partition: &mut Partition,
     limits: Limits,
     scenario: &Scenario,
@@ -114,9 +109,9 @@ pub fn take_steps(
         let (Some(request), Some(reply)) = (requests.get(..*asked), replies.get(..*given)) else {
             return Err(Fail::new(format_args!("step {place} lacks frames")));
         };
-        let frames = frames_of(request);
+        let frames = frames_of(request, 0);
         let request = Request::classify(first_bytes(&frames, *asked), *writable, limits);
-        if !goes_as_told(alloc, partition, &request, &mut last, *code, reply) {
+        if !goes_as_told(partition, &request, &mut last, *code, reply) {
             return Err(Fail::new(format_args!("step {place} goes another way")));
         }
         requests = &requests[*asked..];
