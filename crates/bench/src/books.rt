@@ -1,7 +1,6 @@
 //! How long a worker of `rpmbd serve` calls the book, which it does under the book's lock: a Submit
 //! and a Collect for each request. Beside it stands what it does with no lock held: the MACs, and
-//! the memory of the answers. Neither waits for the lock nor what the flusher does under it is
-//! here.
+//! the memory of the answers. Waits for the lock, and the flusher's work under it, aren't here.
 use crate::batches::{Subject, time_kind};
 use crate::clock::{Extent, NO_MEMORY, Row, Stop, Times, Took, now, plus, print_row, since};
 use crate::images::{LIFE, new_image};
